@@ -43,12 +43,17 @@ firsts_more w vs j zero v h =
     let e : j + 0 ≡ j = omega arith in
     rw e (ap (λ (u : ℕ). meant (placed w u) ∷ []) (get_or-set_same vs j v 0 (omega arith)))
 firsts_more w vs j (suc i) v h =
-    let e : j + suc i ≡ j + 1 + i = omega arith in
-    let f : suc i + 1 ≡ suc (i + 1) = omega arith in
-    rw (f, e)
+    let e : j + 1 + i ≡ j + suc i = omega arith in
+    let f : suc (i + 1) ≡ suc i + 1 = omega arith in
+    subst
+    (λ (k : ℕ). placed_all w (firsts (set vs (j + suc i) v) j k)
+        ≡ placed_all w (firsts vs j (suc i)) ++ (meant (placed w v) ∷ [])) f
+    (subst
+    (λ (k : ℕ). placed_all w (firsts (set vs k v) j (suc (i + 1)))
+        ≡ placed_all w (firsts vs j (suc i)) ++ (meant (placed w v) ∷ [])) e
     (ap (λ (u : ℕ). meant (placed w u) ∷ placed_all w (firsts (set vs (j + 1 + i) v) (j + 1) (i + 1)))
     (get_or-set_other vs (j + 1 + i) j v 0 (λ g. omega arith))
-    ∙ ap (λ (us : List C.Atom). meant (placed w (get_or vs j 0)) ∷ us) (firsts_more w vs (j + 1) i v (omega arith)))
+    ∙ ap (λ (us : List C.Atom). meant (placed w (get_or vs j 0)) ∷ us) (firsts_more w vs (j + 1) i v (omega arith))))
 
 module _ {w : List ℕ} {res : ℕ → ℕ} {R : ℕ → Expr} {m at : ℕ} {μ : Meanings} {X : State} {n p d₀ : ℕ} where
   pub listing_begins : (vs : List ℕ) → Sized X → length vs ≡ 16 → Listing w res R m at μ X X n p d₀ vs 0 at n p

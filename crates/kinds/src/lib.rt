@@ -1,7 +1,7 @@
 // The atoms of code lines; and the kinds of nodes and of code lines, by the numbers of documents 01 and 02.
 
 // An atom: a number or a name.
-#[derive(Drop)]
+#[derive(Clone, Copy)]
 pub enum Atom {
     Number(i64),
     Name(u8),

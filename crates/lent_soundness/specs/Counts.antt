@@ -282,7 +282,7 @@ module _ (Γ : NameDepths) where
       (sym (unlent_hold k (is_array Γ x) x (handed Γ us)))
       (subst (λ (b : Bool). Counts (set_aside Γ B us (cond (is_array Γ x && not (B x)) (minus x H) H))
       (less (with_if (is_array Γ x && b) x (unlent k (handed Γ us))) l)) (not_lent m x)
-      (go (is_array Γ x && not (B x)) (counts_aside m us (counts_minus x c)) (counts_aside m us c)))
+      (go (is_array Γ x && not (B x)) (counts_aside {H = minus x H} {l = less (x ∷ []) l} m us (counts_minus x c)) (counts_aside m us c)))
     where
       go : (b : Bool) → Counts (set_aside Γ B us (minus x H)) (less (unlent k (handed Γ us)) (less (x ∷ []) l)) →
           Counts (set_aside Γ B us H) (less (unlent k (handed Γ us)) l) →
@@ -330,7 +330,7 @@ module _ (Γ : NameDepths) where
       (λ J r. (
         subst (Counts J) (sym (less_append (is_array Γ x) x rest l)) r.0,
         λ n. omega (arith, parts n, q.1 n, r.1 n, less_counts first l n),
-      )) (counts_spent us q.0))
+      )) (counts_spent {H = I} us q.0))
 
   -- ---- at the end of a tree, where only the first 256 names are arrays
 

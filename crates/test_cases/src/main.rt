@@ -1,3 +1,4 @@
+#![tactic(auto)]
 // Runs the cases of data/, the base's and those of orders 1 to 10, on the eight calls, and prints how many calls they
 // make and how much of what each leaves is right. Then it prints the refusal of a file for each number from 1 to 9.
 mod calls;
@@ -8,11 +9,13 @@ mod refusals;
 mod swaps;
 mod translations;
 
+use std::io;
+use std::rt::Files;
 use test_text::{TALLY_WORDS, Tally};
 
 // What the cases of a text are about. Those of `EarlierDeliver` were written before an answer to a delivery had its
 // lowest level, and hold for all but its bits 8 to 23.
-#[derive(Drop)]
+#[derive(Clone, Copy)]
 enum Family {
     Translate,
     Check,
@@ -48,45 +51,46 @@ fn run_text(family: Family, text: &[u8], tally: &mut Tally) {
 }
 
 // Runs each case of a file.
-fn run_file(family: Family, name: &[u8], tally: &mut Tally) {
+fn run_file<R: Files>(rt: &R, family: Family, name: &str, tally: &mut Tally) -> io::Result<()> {
     let mut text = [0u8; 200000];
-    let count = test_text::read_text(name, &mut text);
+    let count = test_text::read_text(rt, name, &mut text)?;
     run_text(family, &text[0..count], tally);
+    Ok(())
 }
 
-fn main() {
+fn main(rt: HostRuntime) -> io::Result<()> {
     let mut tally = [0u64; TALLY_WORDS];
-    run_file(Family::Translate, b"translate.txt", &mut tally);
-    run_file(Family::Translate, b"translate_1.txt", &mut tally);
-    run_file(Family::Translate, b"translate_2.txt", &mut tally);
-    run_file(Family::Translate, b"translate_3.txt", &mut tally);
-    run_file(Family::Translate, b"translate_4.txt", &mut tally);
-    run_file(Family::Translate, b"translate_5.txt", &mut tally);
-    run_file(Family::Translate, b"translate_6.txt", &mut tally);
-    run_file(Family::Translate, b"translate_7.txt", &mut tally);
-    run_file(Family::Translate, b"translate_8.txt", &mut tally);
-    run_file(Family::Translate, b"translate_10.txt", &mut tally);
-    run_file(Family::Check, b"check.txt", &mut tally);
-    run_file(Family::Check, b"check_1.txt", &mut tally);
-    run_file(Family::Check, b"check_2.txt", &mut tally);
-    run_file(Family::Check, b"check_3.txt", &mut tally);
-    run_file(Family::Check, b"check_4.txt", &mut tally);
-    run_file(Family::Check, b"check_5.txt", &mut tally);
-    run_file(Family::Check, b"check_6.txt", &mut tally);
-    run_file(Family::Check, b"check_7.txt", &mut tally);
-    run_file(Family::Check, b"check_8.txt", &mut tally);
-    run_file(Family::Check, b"check_10.txt", &mut tally);
-    run_file(Family::EarlierDeliver, b"deliver.txt", &mut tally);
-    run_file(Family::EarlierDeliver, b"deliver_1.txt", &mut tally);
-    run_file(Family::Deliver, b"deliver_2.txt", &mut tally);
-    run_file(Family::Deliver, b"deliver_3.txt", &mut tally);
-    run_file(Family::Deliver, b"deliver_4.txt", &mut tally);
-    run_file(Family::Deliver, b"deliver_5.txt", &mut tally);
-    run_file(Family::Deliver, b"deliver_6.txt", &mut tally);
-    run_file(Family::Deliver, b"deliver_7.txt", &mut tally);
-    run_file(Family::Deliver, b"deliver_8.txt", &mut tally);
-    run_file(Family::Swap, b"swap_4.txt", &mut tally);
-    run_file(Family::Code, b"code_10.txt", &mut tally);
-    test_text::print_tally(&tally);
-    refusals::print_refusals();
+    run_file(&rt, Family::Translate, "translate.txt", &mut tally)?;
+    run_file(&rt, Family::Translate, "translate_1.txt", &mut tally)?;
+    run_file(&rt, Family::Translate, "translate_2.txt", &mut tally)?;
+    run_file(&rt, Family::Translate, "translate_3.txt", &mut tally)?;
+    run_file(&rt, Family::Translate, "translate_4.txt", &mut tally)?;
+    run_file(&rt, Family::Translate, "translate_5.txt", &mut tally)?;
+    run_file(&rt, Family::Translate, "translate_6.txt", &mut tally)?;
+    run_file(&rt, Family::Translate, "translate_7.txt", &mut tally)?;
+    run_file(&rt, Family::Translate, "translate_8.txt", &mut tally)?;
+    run_file(&rt, Family::Translate, "translate_10.txt", &mut tally)?;
+    run_file(&rt, Family::Check, "check.txt", &mut tally)?;
+    run_file(&rt, Family::Check, "check_1.txt", &mut tally)?;
+    run_file(&rt, Family::Check, "check_2.txt", &mut tally)?;
+    run_file(&rt, Family::Check, "check_3.txt", &mut tally)?;
+    run_file(&rt, Family::Check, "check_4.txt", &mut tally)?;
+    run_file(&rt, Family::Check, "check_5.txt", &mut tally)?;
+    run_file(&rt, Family::Check, "check_6.txt", &mut tally)?;
+    run_file(&rt, Family::Check, "check_7.txt", &mut tally)?;
+    run_file(&rt, Family::Check, "check_8.txt", &mut tally)?;
+    run_file(&rt, Family::Check, "check_10.txt", &mut tally)?;
+    run_file(&rt, Family::EarlierDeliver, "deliver.txt", &mut tally)?;
+    run_file(&rt, Family::EarlierDeliver, "deliver_1.txt", &mut tally)?;
+    run_file(&rt, Family::Deliver, "deliver_2.txt", &mut tally)?;
+    run_file(&rt, Family::Deliver, "deliver_3.txt", &mut tally)?;
+    run_file(&rt, Family::Deliver, "deliver_4.txt", &mut tally)?;
+    run_file(&rt, Family::Deliver, "deliver_5.txt", &mut tally)?;
+    run_file(&rt, Family::Deliver, "deliver_6.txt", &mut tally)?;
+    run_file(&rt, Family::Deliver, "deliver_7.txt", &mut tally)?;
+    run_file(&rt, Family::Deliver, "deliver_8.txt", &mut tally)?;
+    run_file(&rt, Family::Swap, "swap_4.txt", &mut tally)?;
+    run_file(&rt, Family::Code, "code_10.txt", &mut tally)?;
+    test_text::print_tally(&rt, &tally)?;
+    refusals::print_refusals(&rt)
 }

@@ -12,7 +12,7 @@ use test_values::{VALUE_WORDS, memory, stops, work};
 const CODE_LINES: usize = 4096;
 
 // What a delivery is given: so many bytes of the file, cells, readings and steps.
-#[derive(Drop)]
+#[derive(Clone, Copy)]
 pub struct Given {
     pub end: usize,
     pub cells: usize,

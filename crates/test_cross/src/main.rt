@@ -1,3 +1,4 @@
+#![tactic(auto)]
 // Runs the engine and a second interpreter on the same scripts and deliveries: document 01's remaining trials, and
 // scripts made from seeds. It prints how many deliveries agree in each part of the answer and in the totals, by number.
 mod both;
@@ -5,7 +6,7 @@ mod tally;
 mod trials;
 
 use both::Given;
-use libc::STDOUT_FILENO;
+use std::io;
 use tally::TALLY_WORDS;
 use test_draft::{DESK_WORDS, Desk, requests};
 use test_generate::scripts;
@@ -20,12 +21,8 @@ const SCRIPTS: u64 = 400;
 const DELIVERIES: u64 = 6;
 
 // Says where the engine and the second interpreter differ.
-fn print_difference(seed: u64, delivery: u64) {
-    io::write_all(STDOUT_FILENO, b"differs: seed ");
-    io::print_decimal(STDOUT_FILENO, seed);
-    io::write_all(STDOUT_FILENO, b", delivery ");
-    io::print_decimal(STDOUT_FILENO, delivery);
-    io::write_all(STDOUT_FILENO, b"\n");
+fn print_difference(rt: &impl Print, seed: u64, delivery: u64) -> io::Result<()> {
+    println!(rt; "differs: seed {seed}, delivery {delivery}")
 }
 
 // What the next delivery is given; its readings are filled in.
@@ -83,7 +80,7 @@ fn run_store(
 }
 
 // The script of a seed.
-fn run_seed(seed: u64, counts: &mut [u64; TALLY_WORDS]) {
+fn run_seed(rt: &impl Print, seed: u64, counts: &mut [u64; TALLY_WORDS]) -> io::Result<()> {
     let mut desk = [0u64; DESK_WORDS];
     let mut file = [0u8; FILE_BYTES];
     scripts::make_script(&mut desk, seed);
@@ -92,22 +89,24 @@ fn run_seed(seed: u64, counts: &mut [u64; TALLY_WORDS]) {
     let cells = requests::choose_cells(&mut desk);
     let delivery = run_store(&file, end, cells, &mut desk, counts);
     if delivery < DELIVERIES {
-        print_difference(seed, delivery);
+        print_difference(rt, seed, delivery)?;
     }
+    Ok(())
 }
 
 // The scripts of all seeds.
-fn run_seeds(counts: &mut [u64; TALLY_WORDS]) {
+fn run_seeds(rt: &impl Print, counts: &mut [u64; TALLY_WORDS]) -> io::Result<()> {
     let mut seed: u64 = 0;
     while seed < SCRIPTS {
-        run_seed(seed, counts);
+        run_seed(rt, seed, counts)?;
         seed = seed + 1;
     }
+    Ok(())
 }
 
-fn main() {
-    trials::run_trials();
+fn main(rt: HostRuntime) -> io::Result<()> {
+    trials::run_trials(&rt)?;
     let mut counts = [0u64; TALLY_WORDS];
-    run_seeds(&mut counts);
-    tally::print_tally(&counts);
+    run_seeds(&rt, &mut counts)?;
+    tally::print_tally(&rt, &counts)
 }

@@ -1,7 +1,7 @@
 // What a run counts, in one array of words, and how it is printed.
 ghost use Rattle.std.specs.Prelude.{◌≤◌};
 
-use libc::STDOUT_FILENO;
+use std::io;
 use test_draft::Desk;
 use test_values::{kinds, stops};
 
@@ -24,7 +24,7 @@ pub const TALLY_WORDS: usize = 80;
 // Counts one more.
 pub fn count(tally: &mut [u64; TALLY_WORDS], i: usize) {
     let at = i % TALLY_WORDS;
-    tally[at] = std::num::wrapping_add_u64(tally[at], 1);
+    tally[at] = tally[at].wrapping_add(1);
 }
 
 // Counts a script that is opened, with totals of this depth.
@@ -53,46 +53,51 @@ fn count_nodes(draft: &Desk, tally: &mut [u64; TALLY_WORDS]) {
 }
 
 // Prints a number and how often it was counted.
-fn print_line(label: u64, count: u64) {
-    io::write_all(STDOUT_FILENO, b"  ");
-    io::print_decimal(STDOUT_FILENO, label);
-    io::write_all(STDOUT_FILENO, b": ");
-    io::print_decimal(STDOUT_FILENO, count);
-    io::write_all(STDOUT_FILENO, b"\n");
+fn print_line(rt: &impl Print, label: u64, count: u64) -> io::Result<()> {
+    println!(rt; "  {label}: {count}")
 }
 
 // Prints so many words of the tally from a place, each with its number.
-fn print_words(tally: &[u64; TALLY_WORDS], start: usize, first: u64, past: u64)
+fn print_words(
+    rt: &impl Print,
+    tally: &[u64; TALLY_WORDS],
+    start: usize,
+    first: u64,
+    past: u64,
+) -> io::Result<()>
     requires { (start ≤ 80) × (past ≤ 80) }
 {
     let mut i = first;
     while i < past {
-        print_line(i, tally[(start + i as usize) % TALLY_WORDS]);
+        print_line(rt, i, tally[(start + i as usize) % TALLY_WORDS])?;
         i = i + 1;
     }
+    Ok(())
 }
 
 // Prints a word of the tally with what it counts.
-fn print_count(label: &[u8], count: u64) {
-    io::write_all(STDOUT_FILENO, label);
-    io::print_decimal(STDOUT_FILENO, count);
-    io::write_all(STDOUT_FILENO, b"\n");
+fn print_count(rt: &impl Print, label: &str, count: u64) -> io::Result<()> {
+    println!(rt; "{label}{count}")
 }
 
 // Prints the tally of a run.
-pub fn print_tally(tally: &[u64; TALLY_WORDS]) {
-    print_count(b"scripts opened: ", tally[OPENED]);
-    print_count(b"scripts refused: ", tally[REFUSED]);
-    print_count(b"scripts that reach level 64: ", tally[LAST_LEVEL]);
-    io::write_all(STDOUT_FILENO, b"scripts by the depth of the totals\n");
-    print_words(tally, DEPTHS, 0, 5);
-    io::write_all(STDOUT_FILENO, b"nodes by kind\n");
-    print_words(tally, KINDS, 0, kinds::MAP + 1);
-    print_words(tally, KINDS, kinds::IOTA, kinds::REDUCE + 1);
-    io::write_all(STDOUT_FILENO, b"deliveries that agree, by number\n");
-    print_line(stops::DONE, tally[stops::DONE as usize]);
-    print_line(stops::BAD_REQUEST, tally[stops::BAD_REQUEST as usize]);
-    print_words(tally, 0, stops::OUT_OF_STEPS, stops::BAD_COUNT + 1);
-    print_line(stops::BAD_GUARD, tally[stops::BAD_GUARD as usize]);
-    print_count(b"deliveries that differ: ", tally[stops::DIFFERS as usize]);
+pub fn print_tally(rt: &impl Print, tally: &[u64; TALLY_WORDS]) -> io::Result<()> {
+    print_count(rt, "scripts opened: ", tally[OPENED])?;
+    print_count(rt, "scripts refused: ", tally[REFUSED])?;
+    print_count(rt, "scripts that reach level 64: ", tally[LAST_LEVEL])?;
+    println!(rt; "scripts by the depth of the totals")?;
+    print_words(rt, tally, DEPTHS, 0, 5)?;
+    println!(rt; "nodes by kind")?;
+    print_words(rt, tally, KINDS, 0, kinds::MAP + 1)?;
+    print_words(rt, tally, KINDS, kinds::IOTA, kinds::REDUCE + 1)?;
+    println!(rt; "deliveries that agree, by number")?;
+    print_line(rt, stops::DONE, tally[stops::DONE as usize])?;
+    print_line(rt, stops::BAD_REQUEST, tally[stops::BAD_REQUEST as usize])?;
+    print_words(rt, tally, 0, stops::OUT_OF_STEPS, stops::BAD_COUNT + 1)?;
+    print_line(rt, stops::BAD_GUARD, tally[stops::BAD_GUARD as usize])?;
+    print_count(
+        rt,
+        "deliveries that differ: ",
+        tally[stops::DIFFERS as usize],
+    )
 }

@@ -2,7 +2,7 @@
 // of 33. Each is one delivery to a fresh store.
 use super::both;
 use super::both::Given;
-use libc::STDOUT_FILENO;
+use std::io;
 use test_draft::{DESK_WORDS, Desk, write};
 use test_ledger::{HEAD_WORDS, SLOT_WORDS};
 use test_values::memory::MEMORY_WORDS;
@@ -82,35 +82,40 @@ fn number_of(
 }
 
 // Prints what a trial is, and its number in both.
-fn run_trial(label: &[u8], desk: &Desk, readings: &[u64; VALUE_WORDS], count: usize) {
+fn run_trial(
+    rt: &impl Print,
+    label: &str,
+    desk: &Desk,
+    readings: &[u64; VALUE_WORDS],
+    count: usize,
+) -> io::Result<()> {
     let mut file = [0u8; FILE_BYTES];
     let end = test_draft::file::write_file(desk, &mut file);
-    io::write_all(STDOUT_FILENO, label);
-    io::print_decimal(STDOUT_FILENO, number_of(&file, end, readings, count));
-    io::write_all(STDOUT_FILENO, b"\n");
+    let number = number_of(&file, end, readings, count);
+    println!(rt; "{label}{number}")
 }
 
 // 16 and 17 readings.
-fn run_printed() {
+fn run_printed(rt: &impl Print) -> io::Result<()> {
     let mut desk = [0u64; DESK_WORDS];
     let readings = [7u64; VALUE_WORDS];
     write_printed(&mut desk);
-    run_trial(b"16 readings: ", &desk, &readings, 16);
-    run_trial(b"17 readings: ", &desk, &readings, 17);
+    run_trial(rt, "16 readings: ", &desk, &readings, 16)?;
+    run_trial(rt, "17 readings: ", &desk, &readings, 17)
 }
 
 // Main is the first call, and the function with the reading n makes n + 1 more.
-fn run_nested() {
+fn run_nested(rt: &impl Print) -> io::Result<()> {
     let mut desk = [0u64; DESK_WORDS];
     let most = [30u64; VALUE_WORDS];
     let over = [31u64; VALUE_WORDS];
     write_nested(&mut desk);
-    run_trial(b"call depth 32: ", &desk, &most, 1);
-    run_trial(b"call depth 33: ", &desk, &over, 1);
+    run_trial(rt, "call depth 32: ", &desk, &most, 1)?;
+    run_trial(rt, "call depth 33: ", &desk, &over, 1)
 }
 
 // Runs all trials.
-pub fn run_trials() {
-    run_printed();
-    run_nested();
+pub fn run_trials(rt: &impl Print) -> io::Result<()> {
+    run_printed(rt)?;
+    run_nested(rt)
 }

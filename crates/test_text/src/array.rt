@@ -1,6 +1,6 @@
 // Bytes and words of arrays, read from the lines of a case.
 ghost use Rattle.std.specs.Prelude.{◌≡◌, ◌+◌, ◌*◌, ◌≤◌, min, length};
-ghost use Rattle.io.specs.Counts.{IsPrefixLen};
+ghost use Rattle.test_text.specs.Counts.{IsPrefixLen};
 
 use crate::number::{digit, natural, natural_at, signed, signed_at};
 use crate::text::{after, byte_at, line_at, line_of, past, start_of, word};

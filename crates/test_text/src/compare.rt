@@ -14,34 +14,14 @@ pub const MOST_LINES: usize = 5000;
 fn same_slots(a: &[i64], b: &[i64]) -> bool
     ensures { result ≡ true → a.now ≡ b.now }
 {
-    if a.len() != b.len() {
-        return false;
-    }
-    let mut i = 0;
-    while i < a.len() {
-        if a[i] != b[i] {
-            return false;
-        }
-        i = i + 1;
-    }
-    true
+    a == b
 }
 
 // The same for arrays of unsigned words.
 fn same_heads(a: &[u32], b: &[u32]) -> bool
     ensures { result ≡ true → a.now ≡ b.now }
 {
-    if a.len() != b.len() {
-        return false;
-    }
-    let mut i = 0;
-    while i < a.len() {
-        if a[i] != b[i] {
-            return false;
-        }
-        i = i + 1;
-    }
-    true
+    a == b
 }
 
 // Whether both code arrays hold what two arrays that are at least as long begin with.
@@ -63,7 +43,7 @@ pub fn same_code(
     if wanted_operands.len() < words {
         return false;
     }
-    if check::same(kinds, &wanted_kinds[..lines]) {
+    if kinds == &wanted_kinds[..lines] {
         return same_slots(operands, &wanted_operands[..words]);
     }
     false
@@ -98,7 +78,7 @@ fn same_buffer(bytes: &[u8], wanted: &[u8]) -> bool
     if wanted.len() < count {
         return false;
     }
-    check::same(bytes, &wanted[..count])
+    bytes == &wanted[..count]
 }
 
 // Whether both code arrays are as a call with this answer leaves them: the code, or all zero after a refusal.

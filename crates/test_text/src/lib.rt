@@ -1,3 +1,4 @@
+#![tactic(auto)]
 // Reads the text of test cases, compares what a call leaves with what it must leave, and counts what is right. A case
 // is a part of the text from its line `case` to its line `end`. A line is a key and its values, with one blank between.
 // Nothing stands past the end.

@@ -2,7 +2,7 @@
 // case wants, and printed.
 ghost use Rattle.std.specs.Prelude.{◌<◌};
 
-use libc::STDOUT_FILENO;
+use std::io;
 
 // The parts of a tally: the eight calls, and the stores that histories end with.
 pub const TRANSLATE: usize = 0;
@@ -68,7 +68,7 @@ pub fn turn_to(tally: &mut Tally, part: usize, number: usize) {
 // Adds to a count.
 pub fn count(tally: &mut Tally, column: usize, more: u64) {
     let at = place(tally[ROW] as usize, column);
-    tally[at] = std::num::wrapping_add_u64(tally[at], more);
+    tally[at] = tally[at].wrapping_add(more);
 }
 
 // Counts a call, and whether its answer is right.
@@ -86,44 +86,42 @@ pub fn count_last(tally: &mut Tally) {
 }
 
 // Prints a row that anything is counted in: the number and its counts.
-fn print_row(tally: &Tally, row: usize) {
+fn print_row(rt: &impl Print, tally: &Tally, row: usize) -> io::Result<()> {
     if tally[place(row, CALLS)] == 0 {
-        return;
+        return Ok(());
     }
-    io::print_decimal(STDOUT_FILENO, (row % 32) as u64);
+    print!(rt; "{}", row % 32)?;
     let mut column = 0;
     while column < COLUMNS {
-        io::write_all(STDOUT_FILENO, b" ");
-        io::print_decimal(STDOUT_FILENO, tally[place(row, column)]);
+        print!(rt; " {}", tally[place(row, column)])?;
         column = column + 1;
     }
-    io::write_all(STDOUT_FILENO, b"\n");
+    println!(rt; "")
 }
 
 // Prints a part: a row for each number that occurs.
-fn print_part(tally: &Tally, part: usize, name: &[u8]) {
-    io::write_all(STDOUT_FILENO, name);
-    io::write_all(STDOUT_FILENO, b"\n");
+fn print_part(rt: &impl Print, tally: &Tally, part: usize, name: &str) -> io::Result<()> {
+    println!(rt; "{name}")?;
     let mut number = 0;
     while number < 32 {
-        print_row(tally, row_of(part, number));
+        print_row(rt, tally, row_of(part, number))?;
         number = number + 1;
     }
+    Ok(())
 }
 
 // Prints a tally.
-pub fn print_tally(tally: &Tally) {
-    io::write_all(
-        STDOUT_FILENO,
-        b"number, calls, and what is right: answers, codes, their words, stores (saved buffers), their words\n",
-    );
-    print_part(tally, TRANSLATE, b"engine_translate");
-    print_part(tally, OPEN, b"engine_open");
-    print_part(tally, CHECK, b"engine_check");
-    print_part(tally, DELIVER, b"engine_deliver");
-    print_part(tally, SAVE, b"engine_save");
-    print_part(tally, RESTORE, b"engine_restore");
-    print_part(tally, CHECK_CODE, b"engine_check_code");
-    print_part(tally, DELIVER_CODE, b"engine_deliver_code");
-    print_part(tally, LAST, b"the stores that histories end with");
+pub fn print_tally(rt: &impl Print, tally: &Tally) -> io::Result<()> {
+    println!(rt;
+        "number, calls, and what is right: answers, codes, their words, stores (saved buffers), their words"
+    )?;
+    print_part(rt, tally, TRANSLATE, "engine_translate")?;
+    print_part(rt, tally, OPEN, "engine_open")?;
+    print_part(rt, tally, CHECK, "engine_check")?;
+    print_part(rt, tally, DELIVER, "engine_deliver")?;
+    print_part(rt, tally, SAVE, "engine_save")?;
+    print_part(rt, tally, RESTORE, "engine_restore")?;
+    print_part(rt, tally, CHECK_CODE, "engine_check_code")?;
+    print_part(rt, tally, DELIVER_CODE, "engine_deliver_code")?;
+    print_part(rt, tally, LAST, "the stores that histories end with")
 }

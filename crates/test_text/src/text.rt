@@ -1,19 +1,32 @@
 // The text of a file of cases: its parts, which are cases, lines and words, and positions in it.
-ghost use Rattle.std.specs.Prelude.{◌≡◌, ◌+◌, ◌<◌, ◌≤◌, min, true, length, take, drop, slice_index};
-ghost use Rattle.io.specs.Counts.{IsPrefixLen};
+ghost use Rattle.std.specs.Prelude.{◌≡◌, ◌+◌, ◌<◌, ◌≤◌, min, true, length, take, drop, slice_index, IfOk};
+ghost use Rattle.test_text.specs.Counts.{IsPrefixLen};
 
-// Reads a file of cases, and answers how many bytes it has; 0 if it cannot be read.
-pub fn read_text(name: &[u8], text: &mut [u8]) -> usize
-    ensures { IsPrefixLen result text.new }
+use std::io::Read;
+use std::rt::Files;
+use std::{fs, io};
+
+// Reads a file of cases, and answers how many bytes it has.
+pub fn read_text<R: Files>(rt: &R, name: &str, text: &mut [u8]) -> io::Result<usize>
+    ensures { IfOk result (λ n. IsPrefixLen n text.new) }
 {
-    let fd = os::open_read(name);
-    if fd < 0 {
-        os::fail(name);
-        return 0;
+    let mut file = fs::open(rt, name)?;
+    read_full(&mut file, text)
+}
+
+// Reads until the text is full or the file ends, and answers how many bytes there are.
+fn read_full<F: Read>(file: &mut F, text: &mut [u8]) -> io::Result<usize>
+    ensures { IfOk result (λ n. IsPrefixLen n text.new) }
+{
+    let mut n = 0;
+    while n < text.len() {
+        let more = file.read(&mut text[n..])?;
+        if more == 0 {
+            return Ok(n);
+        }
+        n = n + more;
     }
-    let n = io::read_full(fd, text);
-    libc::close(fd);
-    n
+    Ok(n)
 }
 
 // The byte at a position; 0 past the end.
@@ -69,7 +82,7 @@ pub fn stands_at(text: &[u8], at: usize, bytes: &[u8]) -> bool
         return false;
     }
     let end = at + bytes.len();
-    check::same(&text[at..end], bytes)
+    &text[at..end] == bytes
 }
 
 // The end of the case that begins at `at`: the position after its line `end`.

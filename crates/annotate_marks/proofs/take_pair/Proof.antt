@@ -15,27 +15,23 @@ returns c =
 
 returns_2 : tie.Need-returns-in-Name-a
 returns_2 c =
-    let at_a = c.a-1 in
     let a = c.args in
-    rw (c.in-Number.is, at_a.given.1) (λ s h. rw (set-set s a.x false
-    false) (take_name a.notes.now (a.p + 1) (take_number a.notes.now (a.p + 2) (take_start s a.cur.now a.x (omega arith) h (search rules)) _) at_a.given.0.0 c.mark_at-v.result (omega arith) c.mark_at-v.ensures).took)
+    rw (c.in-Number.is, c.in-Name-a.is) (λ s h. rw (set-set s a.x false
+    false) (take_name a.notes.now (a.p + 1) (take_number a.notes.now (a.p + 2) (take_start s a.cur.now a.x (omega arith) h (search rules)) _) c.in-Name-a.y c.mark_at-v.result (omega arith) c.mark_at-v.ensures).took)
 
 returns_3 : tie.Need-returns-in-Number-a-2
 returns_3 c =
     let at-mark-at2 = c.mark_at-u in
-    let at_b = c.b-1 in
     let a = c.args in
-    rw (at_b.given.1, c.in-Number-a-2.is) (λ s h. rw (set-set (set s a.x false) at_b.given.0.0 true
-    true) (take_number a.notes.now (a.p + 1) (take_name a.notes.now (a.p + 2) (take_start s a.cur.now a.x (omega arith) h (search rules)) at_b.given.0.0 at-mark-at2.result (omega arith)
+    rw (c.in-Name.is, c.in-Number-a-2.is) (λ s h. rw (set-set (set s a.x false) c.in-Name.z true
+    true) (take_number a.notes.now (a.p + 1) (take_name a.notes.now (a.p + 2) (take_start s a.cur.now a.x (omega arith) h (search rules)) c.in-Name.z at-mark-at2.result (omega arith)
     at-mark-at2.ensures) _).took)
 
 returns_4 : tie.Need-returns-in-Name-a-2
 returns_4 c =
-    let at-a2 = c.a-in-Name-a-2-1 in
     let at-mark-at2 = c.mark_at-u in
-    let at_b = c.b-1 in
     let a = c.args in
-    rw (at_b.given.1, at-a2.given.1) (λ s h. (take_name a.notes.now (a.p + 1) (take_name a.notes.now (a.p + 2) (take_start s a.cur.now a.x (omega arith) h (search rules)) at_b.given.0.0 at-mark-at2.result (omega arith) at-mark-at2.ensures) at-a2.given.0.0 c.mark_at-v-in-Name-a-2.result (omega arith) c.mark_at-v-in-Name-a-2.ensures).took)
+    rw (c.in-Name.is, c.in-Name-a-2.is) (λ s h. (take_name a.notes.now (a.p + 1) (take_name a.notes.now (a.p + 2) (take_start s a.cur.now a.x (omega arith) h (search rules)) c.in-Name.z at-mark-at2.result (omega arith) at-mark-at2.ensures) c.in-Name-a-2.y c.mark_at-v-in-Name-a-2.result (omega arith) c.mark_at-v-in-Name-a-2.ensures).took)
 
 pub take_pair_spec : {M : Type 1} → statement M
 take_pair_spec =

@@ -1,5 +1,5 @@
 -- `lent_atoms::hand_over` meets its contract.
-use Rattle.prelude.specs.Kit.{arith, length-set, rules}
+use Rattle.prelude.specs.Kit.{arith, length-set, rules, ap, not}
 use Rattle.laws.specs.Tests.{passed, failed}
 use Rattle.lent_atoms.specs.Told.{depths}
 use Rattle.lent_atoms.proofs.Laws.{spend_number, spend_none, spend_some, spend_nothing}
@@ -10,7 +10,7 @@ returns : tie.Need-returns-then-not-array
 returns c =
     let a = c.args in (
       rw c.in-Name.is (spend_number (depths a.table.now a.f) _ a.holds.now
-          (failed c.is_array-array.ensures c.if-not-array.true)),
+          (failed c.is_array-array.ensures (ap not c.if-not-array.true))),
       c.requires,
     )
 
@@ -19,7 +19,7 @@ returns_2 c =
     let a = c.args in (
       rw c.in-Name.is
           (spend_none (depths a.table.now a.f) _ a.holds.now
-          (passed c.is_array-array.ensures c.if-not-array.false)
+          (passed c.is_array-array.ensures (ap not c.if-not-array.false))
           c.if-n-eq0.true a.holds.now),
       c.requires,
     )
@@ -36,7 +36,7 @@ returns_4 c =
     let a = c.args in (
       rw c.in-Name.is
           (spend_some (depths a.table.now a.f) _ a.holds.now
-          (passed c.is_array-array.ensures c.if-not-array.false)
+          (passed c.is_array-array.ensures (ap not c.if-not-array.false))
           c.if-n-eq0.false
           (omega (arith, c.requires))),
       simp length-set c.requires,

@@ -1,5 +1,5 @@
 -- `lent_atoms::may_read` meets its contract.
-use Rattle.prelude.specs.Kit.{rules}
+use Rattle.prelude.specs.Kit.{rules, ap, not}
 use Rattle.laws.specs.Tests.{passed, failed}
 use Rattle.lent_atoms.specs.Told.{depths}
 use Rattle.lent_counts.specs.Counted.{counted, set_of}
@@ -12,21 +12,21 @@ returns c =
     let a = c.args in
     rw c.in-Name.is (reads_number (depths a.table.now a.f)
     (set_of a.lent.now) (counted a.holds.now) _
-    (failed c.is_array-array.ensures c.if-not-array.true))
+    (failed c.is_array-array.ensures (ap not c.if-not-array.true)))
 
 returns_2 : tie.Need-returns-then-lent-x
 returns_2 c =
     let a = c.args in
     rw c.in-Name.is
     (reads_lent (depths a.table.now a.f) (set_of a.lent.now) (counted a.holds.now) _
-    (passed c.is_array-array.ensures c.if-not-array.false) c.if-lent-x.true)
+    (passed c.is_array-array.ensures (ap not c.if-not-array.false)) c.if-lent-x.true)
 
 returns_4 : tie.Need-returns-else-lent-x
 returns_4 c =
     let a = c.args in
     rw c.in-Name.is
     (reads_held (depths a.table.now a.f) (set_of a.lent.now) (counted a.holds.now) _
-    (passed c.is_array-array.ensures c.if-not-array.false)
+    (passed c.is_array-array.ensures (ap not c.if-not-array.false))
     c.if-lent-x.false)
 
 pub may_read_spec : {M : Type 1} → statement M

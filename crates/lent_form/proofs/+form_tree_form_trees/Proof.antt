@@ -67,7 +67,7 @@ module _ (t : ℕ) where
       let line = c.form_line in
       walk_ends a.kinds.now a.operands.now c.requires.1.lined.even a.over a.levels a.at _
       c.loop-p.invariant c.if-levels-eq0.false c.loop-p-test.true line.result line.ensures _ _
-      c.q-1.given.1 c.if-trees-eq-ENDS.true
+      c.in-Passed.is c.if-trees-eq-ENDS.true
 
   form_tree_loop_less : Tree form-tree-lts.Need-loop-p-smaller-then-trees-eq0
   form_tree_loop_less c =
@@ -78,7 +78,7 @@ module _ (t : ℕ) where
         c.loop-p-test.true,
         is_later a.kinds.now a.operands.now c.requires.1.lined.even
             a.over a.levels a.at _ c.loop-p.invariant c.if-levels-eq0.false c.loop-p-test.true
-            line.result line.ensures _ _ c.q-1.given.1,
+            line.result line.ensures _ _ c.in-Passed.is,
       )
 
   form_tree_loop_again : Tree form-tree-lts.Need-loop-p-preserved-then-trees-eq0
@@ -87,7 +87,7 @@ module _ (t : ℕ) where
       let line = c.form_line in
       walk_on a.kinds.now a.operands.now c.requires.1.lined.even a.over a.levels a.at _
       c.loop-p.invariant c.if-levels-eq0.false c.loop-p-test.true line.result line.ensures _ _
-      c.q-1.given.1 c.if-trees-eq0.true
+      c.in-Passed.is c.if-trees-eq0.true
 
   form_tree_form_trees_requires : Tree form-tree-lts.Need-form_trees-requires
   form_tree_form_trees_requires c κs =
@@ -101,7 +101,7 @@ module _ (t : ℕ) where
             c.if-trees-eq-ENDS.false,
             trees_are a.kinds.now a.operands.now c.requires.1.lined.even
                 a.over a.levels a.at _ c.loop-p.invariant c.if-levels-eq0.false c.loop-p-test.true
-                line.result line.ensures _ _ c.q-1.given.1,
+                line.result line.ensures _ _ c.in-Passed.is,
           ),
           c.requires.1,
         ),
@@ -117,9 +117,9 @@ module _ (t : ℕ) where
         c.loop-p-test.true,
         is_later a.kinds.now a.operands.now c.requires.1.lined.even
             a.over a.levels a.at _ c.loop-p.invariant c.if-levels-eq0.false c.loop-p-test.true
-            line.result line.ensures _ _ c.q-1.given.1,
+            line.result line.ensures _ _ c.in-Passed.is,
         risen _ read.result _ read.ensures.rises
-            c.r-1.given.1,
+            c.in-Next.is,
       )
 
   form_tree_loop_again_2 : Tree form-tree-lts.Need-loop-p-preserved
@@ -128,8 +128,8 @@ module _ (t : ℕ) where
       let line = c.form_line in
       walk_past_trees a.kinds.now a.operands.now c.requires.1.lined.even a.over a.levels a.at _
       c.loop-p.invariant c.if-levels-eq0.false c.loop-p-test.true line.result line.ensures _ _
-      c.q-1.given.1 c.form_trees.result c.form_trees.ensures c.if-trees-eq-ENDS.false _
-      c.r-1.given.1
+      c.in-Passed.is c.form_trees.result c.form_trees.ensures c.if-trees-eq-ENDS.false _
+      c.in-Next.is
 
   form_tree_returns_3 : Tree form-tree-lts.Need-returns-in-Fault
   form_tree_returns_3 c =
@@ -137,8 +137,8 @@ module _ (t : ℕ) where
       let line = c.form_line in
       walk_stops a.kinds.now a.operands.now c.requires.1.lined.even a.over a.levels a.at _
       c.loop-p.invariant c.if-levels-eq0.false c.loop-p-test.true line.result line.ensures _ _
-      c.q-1.given.1 c.form_trees.result c.form_trees.ensures c.if-trees-eq-ENDS.false _
-      c.r-in-Fault-1.given.1
+      c.in-Passed.is c.form_trees.result c.form_trees.ensures c.if-trees-eq-ENDS.false _
+      c.in-Fault.is
 
   form_tree_returns_4 : Tree form-tree-lts.Need-returns-in-Failed
   form_tree_returns_4 c =
@@ -146,7 +146,7 @@ module _ (t : ℕ) where
       let line = c.form_line in
       walk_fails a.kinds.now a.operands.now c.requires.1.lined.even a.over a.levels a.at _
       c.loop-p.invariant c.if-levels-eq0.false c.loop-p-test.true line.result line.ensures _
-      c.q-in-Failed-1.given.1
+      c.in-Failed.is
 
   form_tree_returns_5 : Tree form-tree-lts.Need-returns
   form_tree_returns_5 c =
@@ -164,20 +164,20 @@ module _ (t : ℕ) where
   form_trees_returns c =
       let a = c.args in
       one_tree _ _ a.at c.form_tree.result c.form_tree.ensures a.trees _
-      c.q-1.given.1 c.if-trees-eq1.true
+      c.in-Next.is c.if-trees-eq1.true
 
   form_trees_returns_2 : Trees form-trees-lts.Need-returns-else-trees-eq1
   form_trees_returns_2 c =
       let a = c.args in
       two_trees _ _ a.at c.form_tree.result c.form_tree.ensures a.trees _
-      c.q-1.given.1 (omega (arith, c.if-trees-eq1.false, c.requires.1)) c.form_tree-in-Next.result
+      c.in-Next.is (omega (arith, c.if-trees-eq1.false, c.requires.1)) c.form_tree-in-Next.result
       c.form_tree-in-Next.ensures
 
   form_trees_returns_3 : Trees form-trees-lts.Need-returns-in-Fault
   form_trees_returns_3 c =
       let a = c.args in
       no_tree _ _ a.at c.form_tree.result c.form_tree.ensures a.trees _
-      c.q-in-Fault-1.given.1 (omega (arith, c.requires.1))
+      c.in-Fault.is (omega (arith, c.requires.1))
 
 pub +form_tree_form_trees_spec : {M : Type 1} → statement M
 +form_tree_form_trees_spec =

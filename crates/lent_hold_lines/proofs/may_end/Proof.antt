@@ -5,17 +5,17 @@ use Rattle.lent_hold_lines.proofs.Ways.{asks_branch, asks_same}
 use Rattle.lent_hold_lines.proofs.may_end.Statement.{statement}
 use Rattle.lent_hold_lines.proofs.may_end.Tie as tie
 
-returns : tie.Need-returns
+returns : tie.Need-returns-then-branch
 returns c =
-    let a = c.before.before.args in
+    let a = c.args in
     asks_branch (set_of a.lent.now) (counted a.wanted.now) (counted a.holds.now) a.branch
-    c.before.if1.true c.none_bound.ensures
+    c.if-branch.true c.none_bound.ensures
 
-returns_2 : tie.Need-returns-2
+returns_2 : tie.Need-returns
 returns_2 c =
-    let a = c.before.before.args in
+    let a = c.args in
     asks_same (set_of a.lent.now) (counted a.wanted.now) (counted a.holds.now) a.branch
-    c.before.if1.false c.same-counts.ensures
+    c.if-branch.false c.same_counts.ensures
 
 pub may_end_spec : {M : Type 1} → statement M
 may_end_spec = tie.close (tie.spec (λ c κs. search rules) returns (λ c κs. search rules) returns_2)

@@ -5,22 +5,22 @@ use Rattle.lent_hold_lines.proofs.Ways.{retains_pending, retains_lent, retains_h
 use Rattle.lent_hold_lines.proofs.may_retain.Statement.{statement}
 use Rattle.lent_hold_lines.proofs.may_retain.Tie as tie
 
-returns : tie.Need-returns
+returns : tie.Need-returns-then-wait-x
 returns c =
-    let a = c.before.args in
+    let a = c.args in
     retains_pending (set_of a.lent.now) (counted a.holds.now) a.wait a.x
-    (omega (arith, c.before.ranges.x)) c.if1.true
+    (omega (arith, c.ranges.x)) c.if-wait-x.true
 
-returns_2 : tie.Need-returns-2
+returns_2 : tie.Need-returns-then-lent-x
 returns_2 c =
-    let a = c.before.before.before.args in
-    retains_lent (set_of a.lent.now) (counted a.holds.now) a.wait a.x c.if2.true
+    let a = c.args in
+    retains_lent (set_of a.lent.now) (counted a.holds.now) a.wait a.x c.if-lent-x.true
 
-returns_3 : tie.Need-returns-3
+returns_3 : tie.Need-returns
 returns_3 c =
-    let a = c.before.before.before.before.args in
+    let a = c.args in
     retains_held (set_of a.lent.now) (counted a.holds.now) a.wait a.x
-    c.before.before.before.if1.false c.before.if2.false
+    c.if-wait-x.false c.if-lent-x.false
 
 pub may_retain_spec : {M : Type 1} → statement M
 may_retain_spec =

@@ -7,24 +7,24 @@ use Rattle.lent_hold_lines.proofs.Ways.{lined_fault, lined_fine, release_no, rel
 use Rattle.lent_hold_lines.proofs.walk_release.Statement.{statement}
 use Rattle.lent_hold_lines.proofs.walk_release.Tie as tie
 
-returns : tie.Need-returns
+returns : tie.Need-returns-then-n-eq0
 returns c =
-    let a = c.before.before.before.args in
-    lined_fault c.at_fault.result a.at a.holds.now c.before.before.before.requires.1
-    c.at_fault.ensures (release_no a.x a.holds.now a.at c.before.if1.true)
+    let a = c.args in
+    lined_fault c.at_fault.result a.at a.holds.now c.requires.1
+    c.at_fault.ensures (release_no a.x a.holds.now a.at c.if-n-eq0.true)
 
-returns_2 : tie.Need-returns-2
+returns_2 : tie.Need-returns
 returns_2 c =
-    let a = c.before.before.before.args in
+    let a = c.args in
     lined_fine c.passed_to.result (a.at + 1) (set a.holds.now a.x
-    (get_or a.holds.now a.x 0 - 1)) (simp length-set c.before.before.before.requires.1)
+    (get_or a.holds.now a.x 0 - 1)) (simp length-set c.requires.1)
     (minus a.x (counted a.holds.now)) c.passed_to.ensures
     (minus_in a.holds.now a.x (omega (
       arith,
-      c.before.before.before.requires,
-      c.before.before.before.ranges.x,
-    )) _ (omega (arith, c.before.if1.false)))
-    (release_yes a.x a.holds.now a.at c.before.if1.false)
+      c.requires,
+      c.ranges.x,
+    )) _ (omega (arith, c.if-n-eq0.false)))
+    (release_yes a.x a.holds.now a.at c.if-n-eq0.false)
 
 pub walk_release_spec : {M : Type 1} → statement M
 walk_release_spec =

@@ -27,7 +27,7 @@ loop_holds c =
 rework_row_requires : tie.Need-rework_row-row-requires invariant_loop decreases_loop
 rework_row_requires c κs =
     let pre = c.requires in
-    (pre.0, pre.1, omega (arith, c.loop-f-test.true, c.before.before.before.rows_of_lem.ensures.1))
+    (pre.0, pre.1, omega (arith, c.loop-f-test.true, c.rows_of-rows.ensures.1))
 
 loop_again : tie.Need-loop-f-preserved invariant_loop decreases_loop
 loop_again c =
@@ -35,7 +35,7 @@ loop_again c =
     let row = c.rework_row-row in (
       omega arith,
       filled_next _ _ _ v.1
-          (omega (arith, c.loop-f-test.true, c.before.before.before.before.rows_of_lem.ensures.1))
+          (omega (arith, c.loop-f-test.true, c.rows_of-rows.ensures.1))
           row.result row.ensures,
       kept_next _ _ v.2 row.result,
     )
@@ -45,7 +45,7 @@ unfolding reworked_at
 returns c =
     let a = c.args in
     let v = c.loop-f.invariant in
-    let rows = c.before.before.before.rows_of_lem.ensures in
+    let rows = c.rows_of-rows.ensures in
     filled_kept [] a.borrowed.now v.1 v.2 (λ k h l.
     row_kept a.kinds.now a.operands.now a.starts.now a.functions a.borrowed.now k c.requires.2
     (omega (arith, h, v.0)) (omega (arith, h, l, c.loop-f-test.false, rows.2)) l)

@@ -1,5 +1,5 @@
 -- `lent_table::same_tables` meets its contract.
-use Rattle.prelude.specs.Kit.{◌-◌, ◌%◌, ◌/◌, arith, rules}
+use Rattle.prelude.specs.Kit.{◌-◌, ◌%◌, ◌/◌, arith, rules, ap, not}
 use Rattle.laws.specs.Tests.{passed, failed}
 use Rattle.lent_table.proofs.Tables.{Agreeing, agreeing_none, agreeing_more, agreeing_all, as_read}
 use Rattle.lent_table.proofs.Tables.{differing}
@@ -23,7 +23,7 @@ returns c =
     let y = c.is_borrowed-y in
     differing a.a.now a.b.now (k / 8) (k % 8)
     (as_read a.a.now a.b.now (k / 8) (k % 8) x.result y.result x.ensures y.ensures
-    (failed c.agree.ensures c.if-not-agree.true))
+    (failed c.agree.ensures (ap not c.if-not-agree.true)))
 
 loop_again : tie.Need-loop-k-preserved invariant_loop decreases_loop
 loop_again c =
@@ -32,14 +32,14 @@ loop_again c =
     let x = c.is_borrowed-x in
     let y = c.is_borrowed-y in
     agreeing_more a.a.now a.b.now loop.invariant
-    (omega (arith, c.loop-k-test.true, c.before.before.before.before.before.before.rows_of_lem.ensures.1))
+    (omega (arith, c.loop-k-test.true, c.rows_of-rows.ensures.1))
     (as_read a.a.now a.b.now (loop.k / 8) (loop.k % 8) x.result y.result x.ensures y.ensures
-    (passed c.agree.ensures c.if-not-agree.false))
+    (passed c.agree.ensures (ap not c.if-not-agree.false)))
 
 returns_2 : tie.Need-returns invariant_loop decreases_loop
 returns_2 c =
     let a = c.args in
-    let rows = c.before.before.rows_of_lem in
+    let rows = c.rows_of-rows in
     agreeing_all a.a.now a.b.now c.loop-k.invariant a.functions rows.result rows.ensures
     (omega arith) c.requires.0 c.requires.1 c.requires.2
 

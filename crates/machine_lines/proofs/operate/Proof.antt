@@ -5,27 +5,27 @@ use Rattle.machine_lines.proofs.Lines.{less_fits}
 use Rattle.machine_lines.proofs.operate.Statement.{statement}
 use Rattle.machine_lines.proofs.operate.Tie as tie
 
-returns : tie.Need-returns
-returns c = rw c.before.if1.true (rw (
-  to_z-of_z {z = c.before.before.args.a} c.before.before.ranges.a,
-  to_z-of_z {z = c.before.before.args.b} c.before.before.ranges.b,
-) at c.exact-sum.ensures)
+returns : tie.Need-returns-then-kind-eq-SUM
+returns c = rw c.if-kind-eq-SUM.true (rw (
+  to_z-of_z {z = c.args.a} c.ranges.a,
+  to_z-of_z {z = c.args.b} c.ranges.b,
+) at c.exact_sum.ensures)
 
-returns_2 : tie.Need-returns-2
-returns_2 c = rw c.before.if2.true (rw (
-  to_z-of_z {z = c.before.before.before.args.a} c.before.before.before.ranges.a,
-  to_z-of_z {z = c.before.before.before.args.b} c.before.before.before.ranges.b,
-) at c.exact-difference.ensures)
+returns_2 : tie.Need-returns-then-kind-eq-DIFFERENCE
+returns_2 c = rw c.if-kind-eq-DIFFERENCE.true (rw (
+  to_z-of_z {z = c.args.a} c.ranges.a,
+  to_z-of_z {z = c.args.b} c.ranges.b,
+) at c.exact_difference.ensures)
 
-returns_3 : tie.Need-returns-3
+returns_3 : tie.Need-returns
 returns_3 c = rw (
-  ne_eqb _ 4 c.before.before.if1.false,
-  ne_eqb _ 5 c.before.if2.false,
-  to_z-of_z {z = c.is-less.result} (record { sfits = c.is-less.type-inv }),
+  ne_eqb _ 4 c.if-kind-eq-SUM.false,
+  ne_eqb _ 5 c.if-kind-eq-DIFFERENCE.false,
+  to_z-of_z {z = c.is_less.result} (record { sfits = c.is_less.type_inv }),
 ) (ap (λ (z : ℤ). done z tt) (rw (
-  to_z-of_z {z = c.before.before.before.args.a} c.before.before.before.ranges.a,
-  to_z-of_z {z = c.before.before.before.args.b} c.before.before.before.ranges.b,
-) at c.is-less.ensures) ∙ less_fits c.before.before.before.args.a c.before.before.before.args.b)
+  to_z-of_z {z = c.args.a} c.ranges.a,
+  to_z-of_z {z = c.args.b} c.ranges.b,
+) at c.is_less.ensures) ∙ less_fits c.args.a c.args.b)
 
 pub operate_spec : {M : Type 1} → statement M
 operate_spec =

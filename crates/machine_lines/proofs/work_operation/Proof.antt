@@ -4,47 +4,47 @@ use Rattle.machine_lines.proofs.Lines.{operation_spent, operation_value, operati
 use Rattle.machine_lines.proofs.work_operation.Statement.{statement}
 use Rattle.machine_lines.proofs.work_operation.Tie as tie
 
-returns : tie.Need-returns
+returns : tie.Need-returns-then-steps-eq0
 returns c =
-    let a = c.before.before.args in
+    let a = c.args in
     operation_spent a.calls a.kind a.x a.a a.b a.next a.steps a.env.now c.halted.result
-    c.before.if1.true c.halted.ensures
+    c.if-steps-eq0.true c.halted.ensures
 
-returns_2 : tie.Need-returns-2
+returns_2 : tie.Need-returns-in-Value
 returns_2 c =
-    let a = c.before.before.before.before.before.before.before.before.before.before.before.before.args in
-    let word = c.before.before.before.before.before.before.before.before.before.word_of in
-    let word2 = c.before.before.before.before.before.before.before.word-of2 in
-    let exact-is = c.before.before.before.before.before.before.operate in
-    let exact = c.before.before.before.before.z in
-    let told = c.before.before.before.known-told in
+    let a = c.args in
+    let word = c.word_of-v in
+    let word2 = c.word_of-w in
+    let exact-is = c.operate in
+    let exact = c.z-1 in
+    let told = c.in-Value.known_told-1-own in
     operation_value a.calls a.kind a.x a.a a.b a.next a.steps a.env.now
-    c.before.before.before.before.before.before.before.before.before.before.before.if1.false
+    c.if-steps-eq0.false
     word.result word2.result word.ensures word2.ensures exact-is.result (rw (
       to_z-of_z {z =
-          word.result} (record { sfits = word.type-inv }),
-      to_z-of_z {z = word2.result} (record { sfits = word2.type-inv }),
+          word.result} (record { sfits = word.type_inv }),
+      to_z-of_z {z = word2.result} (record { sfits = word2.type_inv }),
     ) at
     exact-is.ensures) exact.given.0.0 exact.given.1 _ (rw (to_z-of_z {z = exact.given.0.0} (record {
       sfits = told.given.0.1;
-    })) at c.before.bind.ensures) c.done.result (rw (to_z-of_z {z =
+    })) at c.bind.ensures) c.done.result (rw (to_z-of_z {z =
     exact.given.0.0} (record { sfits = told.given.0.1 })) at c.done.ensures)
 
-returns_3 : tie.Need-returns-3
+returns_3 : tie.Need-returns-in-Overflow
 returns_3 c =
-    let a = c.before.before.before.before.before.before.before.before.before.args in
-    let word = c.before.before.before.before.before.before.word_of in
-    let word2 = c.before.before.before.before.word-of2 in
-    let exact-is = c.before.before.before.operate in
+    let a = c.args in
+    let word = c.word_of-v in
+    let word2 = c.word_of-w in
+    let exact-is = c.operate in
     operation_over a.calls a.kind a.x a.a a.b a.next a.steps a.env.now
-    c.before.before.before.before.before.before.before.before.if1.false word.result word2.result
+    c.if-steps-eq0.false word.result word2.result
     word.ensures word2.ensures exact-is.result (rw (
       to_z-of_z {z = word.result} (record {
-        sfits = word.type-inv;
+        sfits = word.type_inv;
       }),
-      to_z-of_z {z = word2.result} (record { sfits = word2.type-inv }),
+      to_z-of_z {z = word2.result} (record { sfits = word2.type_inv }),
     ) at exact-is.ensures)
-    c.before.enum_told.given.1 c.halted2.result c.halted2.ensures
+    c.in-Overflow.is c.halted-in-Overflow.result c.halted-in-Overflow.ensures
 
 pub work_operation_spec : {M : Type 1} → statement M
 work_operation_spec =

@@ -61,125 +61,124 @@ load_value_claims t = (
 
 -- ---- elements
 
-abbrev load_elements_Inv_loop : load-elements-lts.invariant_loop
+abbrev load_elements_Inv_loop : load-elements-lts.invariant-loop-left
 load_elements_Inv_loop saved k slots₀ heads₀ depth p c free count left₀ q₀ now-free₀ slots heads left q now-free =
     (left ≤ 255) × (length slots ≡ length slots₀) × (length heads ≡ length heads₀)
     × (fill (load_at saved k depth) c (elements_at saved 0 p) (place (p + 1) free (store_of slots₀ heads₀))
     ≡ fill (load_at saved k depth) c left (place q now-free (store_of slots heads)))
 
-abbrev load_elements_μ_loop : load-elements-lts.decreases_loop
+abbrev load_elements_μ_loop : load-elements-lts.decreases-loop-left
 load_elements_μ_loop saved k slots₀ heads₀ depth p c free count left₀ q₀ now-free₀ slots heads left q now-free = left
 
-load_elements_loop_holds : (t : ℕ) → load-elements-lts.Need-loop-init (load_elements_claims t) (load_elements_at t)
+load_elements_loop_holds : (t : ℕ) → load-elements-lts.Need-loop-left-init (load_elements_claims t) (load_elements_at t)
     load-elements.Post load_elements_Inv_loop load_elements_μ_loop
-load_elements_loop_holds t c = let a = c.before.before.before.args in (
+load_elements_loop_holds t c = let a = c.args in (
   omega arith,
   refl,
   refl,
   ap (λ n. fill (load_at a.saved.now a.k a.depth) a.c n
-      (place (a.p + 1) a.free (store_of a.slots.now a.heads.now))) (sym c.elements_at.ensures),
+      (place (a.p + 1) a.free (store_of a.slots.now a.heads.now))) (sym c.elements_at-count.ensures),
 )
 
-load_elements_returns : (t : ℕ) → load-elements-lts.Need-returns (load_elements_claims t) (load_elements_at t)
+load_elements_returns : (t : ℕ) → load-elements-lts.Need-returns-in-NoneFree (load_elements_claims t) (load_elements_at t)
     load-elements.Post load_elements_Inv_loop load_elements_μ_loop
 load_elements_returns t c =
-    let a = c.before.before.before.before.before.before.before.before.before.before.before.before.before.args in
-    let l = c.before.before.before.before.before.before.before.before.before.loop in
-    let r = c.before.before.before.before.before.load_value in
+    let a = c.args in
+    let l = c.loop-left in
+    let r = c.load_value in
     let from = place l.q l.now-free (store_of l.slots l.heads) in
     runs_dry (load_at a.saved.now a.k a.depth) a.c (elements_at a.saved.now 0 a.p) l.left
     (place (a.p + 1) a.free (store_of a.slots.now a.heads.now)) from l.invariant.3
-    c.before.before.before.before.before.before.before.before.loop-test.true
+    c.loop-left-test.true
     (ended_none (load_at a.saved.now a.k a.depth from) r.result
-    (store_of r.new.1.1.0 r.new.1.1.1.0) r.ensures c.enum_told.given.1) _
+    (store_of r.new.slots r.new.heads) r.ensures c.in-NoneFree.is) _
 
-load_elements_loop_again : (t : ℕ) → load-elements-lts.Need-loop-preserved (load_elements_claims t) (load_elements_at t)
+load_elements_loop_again : (t : ℕ) → load-elements-lts.Need-loop-left-preserved (load_elements_claims t) (load_elements_at t)
     load-elements.Post load_elements_Inv_loop load_elements_μ_loop
 load_elements_loop_again t c =
-    let a = c.before.before.before.before.before.before.before.before.before.before.before.before.before.before.before.before.before.before.before.before.args in
-    let l = c.before.before.before.before.before.before.before.before.before.before.before.before.before.before.before.before.loop in
-    let r = c.before.before.before.before.before.before.before.before.before.before.before.before.load_value in
-    let given = c.before.before.before.before.before.before.before.w.given in
-    let put = c.before.before.before.append in
+    let a = c.args in
+    let l = c.loop-left in
+    let r = c.load_value in
+    let put = c.append in
     let load = load_at a.saved.now a.k a.depth in
     let from = place l.q l.now-free (store_of l.slots l.heads) in
     let to = store_of r.last.1.1.0 r.last.1.1.1.0 in (
       omega arith,
-      put.auto.0 ∙ r.kept.1.1.0 ∙ l.inv.1,
-      put.auto.1.0 ∙ r.kept.1.1.1.0 ∙ l.inv.2,
+      put.auto.0 ∙ r.kept.1.1.0 ∙ l.invariant.1,
+      put.auto.1.0 ∙ r.kept.1.1.1.0 ∙ l.invariant.2,
       goes_on load a.c (elements_at a.saved.now 0 a.p) l.left
-          (place (a.p + 1) a.free (store_of a.slots.now a.heads.now)) from l.inv.3
-          c.before.before.before.before.before.before.before.before.before.before.before.before.before.before.before.loop-test.true given.0.0 (place given.0.1.0 given.0.1.1.0 to)
-          (ended_word (load from) r.result to r.ensures given.0.0 given.0.1.0 given.0.1.1.0
-          given.1)
-          ∙ ap (λ σ. fill load a.c (l.left - 1) (place given.0.1.0 given.0.1.1.0 σ))
-          (sym (rw (to_z-of_z {z = given.0.0} (record {
-            sfits = c.before.before.before.before.before.before.known-told.given.0.1;
+          (place (a.p + 1) a.free (store_of a.slots.now a.heads.now)) from l.invariant.3
+          c.loop-left-test.true c.in-Word.w (place c.in-Word.next c.in-Word.remain to)
+          (ended_word (load from) r.result to r.ensures c.in-Word.w c.in-Word.next c.in-Word.remain
+          c.in-Word.is)
+          ∙ ap (λ σ. fill load a.c (l.left - 1) (place c.in-Word.next c.in-Word.remain σ))
+          (sym (rw (to_z-of_z {z = c.in-Word.w} (record {
+            sfits = c.in-Word.known_told-1-own.given.0.1;
           }))
           at put.ensures)),
     )
 
-load_elements_returns_2 : (t : ℕ) → load-elements-lts.Need-returns-2 (load_elements_claims t) (load_elements_at t)
+load_elements_returns_2 : (t : ℕ) → load-elements-lts.Need-returns (load_elements_claims t) (load_elements_at t)
     load-elements.Post load_elements_Inv_loop load_elements_μ_loop
 load_elements_returns_2 t c =
-    let a = c.before.before.before.before.before.args in
-    let l = c.before.loop in
+    let a = c.args in
+    let l = c.loop-left in
     all_filled (load_at a.saved.now a.k a.depth) a.c (elements_at a.saved.now 0 a.p) l.left
     (place (a.p + 1) a.free (store_of a.slots.now a.heads.now))
     (place l.q l.now-free (store_of l.slots l.heads)) l.invariant.3 (omega arith) (to_z w64 a.c)
-    (to_z_pos w64 (omega (arith, c.before.before.before.before.before.requires.1)))
+    (to_z_pos w64 (omega (arith, c.requires.1)))
 
 -- ---- one value
 
-load_value_returns : (t : ℕ) → load-value-lts.Need-returns (load_value_claims t) (load_value_at t) load_value.Post
+load_value_returns : (t : ℕ) → load-value-lts.Need-returns-then-k-p (load_value_claims t) (load_value_at t) load_value.Post
 load_value_returns t c =
-    let a = c.before.before.before.args in
-    past a.saved.now a.k a.depth a.p a.free (store_of a.slots.now a.heads.now) c.if1.true
+    let a = c.args in
+    past a.saved.now a.k a.depth a.p a.free (store_of a.slots.now a.heads.now) c.if-k-p.true
 
-load_value_returns_2 : (t : ℕ) → load-value-lts.Need-returns-2 (load_value_claims t) (load_value_at t) load_value.Post
+load_value_returns_2 : (t : ℕ) → load-value-lts.Need-returns-then-depth-eq0 (load_value_claims t) (load_value_at t) load_value.Post
 load_value_returns_2 t c =
-    let a = c.before.before.before.before.before.args in
-    let z = c.signed-at.result in
-    rw (to_z-of_z {z = z} (record { sfits = c.signed-at.type-inv }))
+    let a = c.args in
+    let z = c.signed_at.result in
+    rw (to_z-of_z {z = z} (record { sfits = c.signed_at.type_inv }))
     (number a.saved.now a.k a.depth a.p a.free (store_of a.slots.now a.heads.now)
-    c.before.before.if1.false c.before.if2.true z c.signed-at.ensures)
+    c.if-k-p.false c.if-depth-eq0.true z c.signed_at.ensures)
 
 -- the cell acquired
-cell_found : (t : ℕ) (c : load-value-lts.After-load-elements-arg2 (load_value_claims t) (load_value_at t)
+cell_found : (t : ℕ) (c : load-value-lts.After-load_elements-arg-in-Cell-1 (load_value_claims t) (load_value_at t)
     load_value.Post) →
-    let a = c.before.before.before.before.before.before.before.before.before.before.before.before.before.before.before.args in
-    Acquires a.slots.now a.heads.now a.free c.before.before.before.c.given.0.0 c.before.before.before.c.given.0.1.0
+    let a = c.args in
+    Acquires a.slots.now a.heads.now a.free c.in-Cell.c c.in-Cell.left
 cell_found t c =
-    let a = c.before.before.before.before.before.before.before.before.before.before.before.before.before.before.before.args in
-    let found = c.before.before.before.before.before.before.before.before.acquire_empty in
-    cell_is a.slots.now a.heads.now a.free found.result found.ensures.0 c.before.before.before.c.given.0.0
-    c.before.before.before.c.given.0.1.0 c.before.before.before.c.given.1
+    let a = c.args in
+    let found = c.acquire_empty in
+    cell_is a.slots.now a.heads.now a.free found.result found.ensures.0 c.in-Cell.c
+    c.in-Cell.left c.in-Cell.is
 
-load_value_load_elements_requires : (t : ℕ) → load-value-lts.Need-load-elements-requires (load_value_claims t)
+load_value_load_elements_requires : (t : ℕ) → load-value-lts.Need-load_elements-requires (load_value_claims t)
     (load_value_at t) load_value.Post
 load_value_load_elements_requires t c κs = search (rules, (cell_found t c).small)
 
-load_value_returns_3 : (t : ℕ) → load-value-lts.Need-returns-3 (load_value_claims t) (load_value_at t) load_value.Post
+load_value_returns_3 : (t : ℕ) → load-value-lts.Need-returns-in-Cell (load_value_claims t) (load_value_at t) load_value.Post
 load_value_returns_3 t c =
-    let a = c.before.before.before.before.before.before.before.before.before.before.before.before.before.before.before.before.before.before.before.args in
+    let a = c.args in
     let is = cell_found t c.before.before.before.before in
-    let found = c.before.before.before.before.before.before.before.before.before.before.before.before.acquire_empty in
-    let r = c.before.before.before.load-elements in
+    let found = c.acquire_empty in
+    let r = c.load_elements in
     goes_down a.saved.now a.k a.depth a.p a.free (store_of a.slots.now a.heads.now)
-    c.before.before.before.before.before.before.before.before.before.before.before.before.before.before.before.before.if1.false c.before.before.before.before.before.before.before.before.before.before.before.before.before.before.before.if2.false is.has c.before.before.before.before.before.before.before.c.given.0.0 is.first c.before.before.before.before.before.before.before.c.given.0.1.0 is.fewer
+    c.if-k-p.false c.if-depth-eq0.false is.has c.in-Cell.c is.first c.in-Cell.left is.fewer
     (store_of found.last.0 found.last.1.0) found.ensures.1 r.result
-    (store_of r.new.1.1.0 r.new.1.1.1.0) r.ensures
+    (store_of r.new.slots r.new.heads) r.ensures
 
-load_value_returns_4 : (t : ℕ) → load-value-lts.Need-returns-4 (load_value_claims t) (load_value_at t) load_value.Post
+load_value_returns_4 : (t : ℕ) → load-value-lts.Need-returns-in-NoneFree (load_value_claims t) (load_value_at t) load_value.Post
 load_value_returns_4 t c =
-    let a = c.before.before.before.before.before.before.before.before.before.before.before.before.args in
+    let a = c.args in
     let σ = store_of a.slots.now a.heads.now in
-    let found = c.before.before.before.before.before.acquire_empty in
-    dry a.saved.now a.k a.depth a.p a.free σ c.before.before.before.before.before.before.before.before.before.if1.false c.before.before.before.before.before.before.before.before.if2.false
-    (none_is a.free σ found.result found.ensures.0 c.enum_told.given.1) _
+    let found = c.acquire_empty in
+    dry a.saved.now a.k a.depth a.p a.free σ c.if-k-p.false c.if-depth-eq0.false
+    (none_is a.free σ found.result found.ensures.0 c.in-NoneFree.is) _
 
-pub +load-elements-load-value-spec : {M : Type 1} → statement M
-+load-elements-load-value-spec = close μ_load_elements μ_load_value (λ t. load-elements-lts.spec
+pub +load_elements_load_value_spec : {M : Type 1} → statement M
++load_elements_load_value_spec = close μ_load_elements μ_load_value (λ t. load-elements-lts.spec
     (load_elements_claims t) (load_elements_at t) load-elements.Post load_elements_Inv_loop load_elements_μ_loop
     (λ c κs. search rules) (λ c. search rules) (load_elements_loop_holds t) (λ c κs. search rules) (λ c. search rules)
     (λ c κs. search rules) (λ c. search rules) (λ c. search rules) (λ c. search rules) (load_elements_returns t)

@@ -85,7 +85,7 @@ count_value_returns_2 : (t : ℕ) → count-value-lts.Need-returns (count_value_
 count_value_returns_2 t c = let a = c.args in let l = c.loop-i in let σ = store_of a.slots.now a.heads.now in
     let named = rw (to_z-of_z {z = a.w} c.ranges.w) at c.named_cell-c.ensures in
     let size = c.read_length-size.ensures ∙ ap (λ j. length (elements (cell σ j))) named in
-    count_ends σ a.depth a.w a.n l.r l.i (rw (to_z-of_z {z = a.w} c.ranges.w) at l.inv.2) l.inv.1 (omega (arith, size, c.loop-i-test.false))
+    count_ends σ a.depth a.w a.n l.r l.i (rw (to_z-of_z {z = a.w} c.ranges.w) at l.invariant.2) l.invariant.1 (omega (arith, size, c.loop-i-test.false))
 
 pub +count_value_spec : {M : Type 1} → statement M
 +count_value_spec = close μ_count_value λ t. count-value-lts.spec (count_value_claims t)

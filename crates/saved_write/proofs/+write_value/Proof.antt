@@ -87,8 +87,8 @@ write_value_loop_again t c = let a = c.args in let l = c.loop-i in let e = to_z-
     c.put_entry-q.new.saved in
     let one = rw (to_z-of_z {z = u} (record { sfits = c.read_slot-e.type_inv })) at c.write_value-next.ensures in (
       omega (arith, c.loop-i-test.true),
-      c.write_value-next.auto.1.1.0 ∙ l.inv.1,
-      rw e (write_goes σ a.depth a.w a.k (written a.p a.saved.now) t₀ (written l.q l.saved) l.i (rw e at l.inv.2) (omega (
+      c.write_value-next.auto.saved ∙ l.invariant.1,
+      rw e (write_goes σ a.depth a.w a.k (written a.p a.saved.now) t₀ (written l.q l.saved) l.i (rw e at l.invariant.2) (omega (
         arith,
         size,
         c.loop-i-test.true,

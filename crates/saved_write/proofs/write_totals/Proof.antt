@@ -30,7 +30,7 @@ returns_3 c =
     let wrote = c.write_value in
     saves (begun c.before.before.before.before.before.before.before.before.before.before.before.before.before.before) c.if-k-gt-MOST_ENTRIES.false c.if-saved-k.false c.put_byte.new.bytes c.put_bytes.new.bytes
     wrote.new.saved wrote.result c.put_byte.ensures c.put_bytes.ensures
-    (rw (to_z-of_z {z = read.result} (record { sfits = read.ok })) at wrote.ensures)
+    (rw (to_z-of_z {z = read.result} (record { sfits = read.type_inv })) at wrote.ensures)
 
 pub write_totals_spec : {M : Type 1} → statement M
 write_totals_spec =

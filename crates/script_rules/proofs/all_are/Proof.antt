@@ -23,13 +23,13 @@ element_copy_out_if1 c = omega (arith, c.requires.0)
 
 returns : tie.Need-returns-then-ds-i invariant_loop decreases_loop
 returns c =
-    alike_not _ _ _ (enough c.before.before.before.before) c.loop-i.i
+    alike_not _ _ _ (enough c.before.before.before.before.before) c.loop-i.i
     c.loop-i-test.true c.if-ds-i.true c.loop-i.invariant.1
 
 loop_again : tie.Need-loop-i-preserved invariant_loop decreases_loop
 loop_again c = (
   omega arith,
-  alike_goes _ _ _ (enough c.before.before.before.before) c.loop-i.i
+  alike_goes _ _ _ (enough c.before.before.before.before.before) c.loop-i.i
       c.loop-i-test.true c.if-ds-i.false c.loop-i.invariant.1,
 )
 

@@ -29,14 +29,14 @@ element_copy_out_if1 c = omega (arith, c.requires.0)
 
 returns : tie.Need-returns-then-high_at-ds invariant_loop decreases_loop
 returns c =
-    match_not _ _ _ _ _ (enough c.before.before.before.before.before.before.before)
+    match_not _ _ _ _ _ (enough c.before.before.before.before.before.before.before.before)
     c.loop-i.i c.loop-i-test.true
     (λ e. c.if-high_at-ds.true (c.high_at.ensures ∙ e)) c.loop-i.invariant.1
 
 loop_again : tie.Need-loop-i-preserved invariant_loop decreases_loop
 loop_again c = (
   omega arith,
-  match_goes _ _ _ _ _ (enough c.before.before.before.before.before.before.before)
+  match_goes _ _ _ _ _ (enough c.before.before.before.before.before.before.before.before)
       c.loop-i.i c.loop-i-test.true
       (sym c.high_at.ensures ∙ c.if-high_at-ds.false) c.loop-i.invariant.1,
 )

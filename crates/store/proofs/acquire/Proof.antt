@@ -9,15 +9,14 @@ use Rattle.store.proofs.acquire.Tie as tie
 
 returns : tie.Need-returns-in-Cell
 returns c =
-    let told = c.c-1.given in
     let a = c.args in
-    let e = ap acquired_outcome (sym told.1) ∙ c.acquire_empty.ensures.0 in
+    let e = ap acquired_outcome (sym c.in-Cell.is) ∙ c.acquire_empty.ensures.0 in
     with_remaining a.free a.depth a.words.now (store_of a.slots.now a.heads.now) _ _ (
       e,
       c.append_all.ensures
-          ∙ ap (appended_all told.0.0 a.words.now) c.acquire_empty.ensures.1
+          ∙ ap (appended_all c.in-Cell.c a.words.now) c.acquire_empty.ensures.1
           ∙ filled_by_appending a.free a.depth (store_of a.slots.now a.heads.now)
-          (gained told.0.0 told.0.1.0) a.words.now e,
+          (gained c.in-Cell.c c.in-Cell.left) a.words.now e,
     )
 
 returns_2 : tie.Need-returns-in-NoneFree

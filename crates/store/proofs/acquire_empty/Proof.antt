@@ -29,13 +29,13 @@ write_head_requires c κs = let h = inside c.before.before in (h.1, simp length-
 same_length_4 : tie.Need-shape_of-heads
 same_length_4 c =
     let heads = c.args.heads.now in
-    c.write_head.auto.0 ∙ length-set heads 0 _
+    c.write_head.auto.heads ∙ length-set heads 0 _
 
 returns_3 : tie.Need-returns
 returns_3 c =
     let cleared = c.clear_slots in
     with_remaining _ _ _ _ _ _ (rw c.one_fewer.ensures (one_acquired _ _ _ _ (record {
-      long = cleared.auto.0;
+      long = cleared.auto.slots;
       slots_cleared = cleared.ensures;
       heads_written = c.write_head.ensures;
     }) (inside c.before.before.before.before.before.before.before.before.before).0))

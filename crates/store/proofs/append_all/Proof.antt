@@ -25,8 +25,8 @@ loop_again c =
     let w = get_or a.words.now i (pos 0) in
     let one = c.append in (
       omega arith,
-      one.auto.0 ∙ inv.1,
-      one.auto.1.0 ∙ inv.2,
+      one.auto.slots ∙ inv.1,
+      one.auto.heads ∙ inv.2,
       inv.3 ∙ appended_next a.c a.words.now i w _ c.loop-i-test.true refl
           ∙ ap (appended_all a.c (drop (i + 1) a.words.now))
           (sym (rw (to_z-of_z {z = w} (record { sfits = c.w-1.given })) at one.ensures)),

@@ -1,5 +1,5 @@
 -- `store_check::all_name_cells` meets its contract.
-use Rattle.prelude.specs.Kit.{◌+◌, ◌-◌, arith, ◌≡◌, pos, get_or, rules, to_z-of_z}
+use Rattle.prelude.specs.Kit.{◌+◌, ◌-◌, arith, ◌≡◌, pos, get_or, rules, to_z-of_z, ap, not}
 use Rattle.semantics.specs.Words.{store_of}
 use Rattle.laws.specs.Tests.{passed, failed}
 use Rattle.store_check.proofs.Comparing.{names_at, numbers, names}
@@ -26,12 +26,12 @@ word_test c =
 returns_2 : tie.Need-returns-then-not-names_cell invariant_loop decreases_loop
 returns_2 c =
     names _ _ _ _ _ c.if-depth-eq0.false (testing_fails c.loop-i.invariant
-    c.loop-i-test.true (failed (word_test c.before) c.if-not-names_cell.true))
+    c.loop-i-test.true (failed (word_test c.before) (ap not c.if-not-names_cell.true)))
 
 loop_again : tie.Need-loop-i-preserved invariant_loop decreases_loop
 loop_again c =
     testing_more c.loop-i.invariant c.loop-i-test.true
-    (passed (word_test c.before) c.if-not-names_cell.false)
+    (passed (word_test c.before) (ap not c.if-not-names_cell.false))
 
 returns_3 : tie.Need-returns invariant_loop decreases_loop
 returns_3 c =

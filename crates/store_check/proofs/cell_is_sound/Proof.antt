@@ -1,5 +1,5 @@
 -- `store_check::cell_is_sound` meets its contract.
-use Rattle.prelude.specs.Kit.{◌<◌, arith, true, ◌≡◌, rules}
+use Rattle.prelude.specs.Kit.{◌<◌, arith, true, ◌≡◌, rules, ap, not}
 use Rattle.semantics.specs.Words.{cells_in}
 use Rattle.laws.specs.Tests.{passed, failed}
 use Rattle.store_words.proofs.CellWords.{to_cells}
@@ -16,12 +16,12 @@ head : (c : tie.Else-not-head_fits) →
     let h = c.head_of-h.result in
     let a = c.args in
     head_fits h.count h.size h.depth h.next a.met a.holders ≡ true
-head c = passed c.head_fits.ensures c.if-not-head_fits.false
+head c = passed c.head_fits.ensures (ap not c.if-not-head_fits.false)
 
 returns : tie.Need-returns-then-not-head_fits
 returns c =
     head_unfit _ _ _ _ _ (inside c.before.before.before.before) c.head_of-h.ensures
-    (failed c.head_fits.ensures c.if-not-head_fits.true)
+    (failed c.head_fits.ensures (ap not c.if-not-head_fits.true))
 
 returns_2 : tie.Need-returns-then-size-eq0
 returns_2 c =
@@ -31,7 +31,7 @@ returns_2 c =
 returns_3 : tie.Need-returns-then-not-zero_from
 returns_3 c =
     let tested = c.before.before.before in not_zero _ _ _ _ _ (inside tested.before.before.before.before) tested.head_of-h.ensures
-    (head tested) (failed c.zero_from-2.ensures c.if-not-zero_from.true)
+    (head tested) (failed c.zero_from-2.ensures (ap not c.if-not-zero_from.true))
 
 all_name_cells_requires : tie.Need-all_name_cells-requires
 all_name_cells_requires c κs =
@@ -41,7 +41,7 @@ all_name_cells_requires c κs =
 returns_4 : tie.Need-returns
 returns_4 c =
     let tested = c.before.before.before.before in names_decide _ _ _ _ _ (inside tested.before.before.before.before) tested.head_of-h.ensures
-    (head tested) (passed c.zero_from-2.ensures c.if-not-zero_from.false) c.all_name_cells.ensures
+    (head tested) (passed c.zero_from-2.ensures (ap not c.if-not-zero_from.false)) c.all_name_cells.ensures
 
 pub cell_is_sound_spec : {M : Type 1} → statement M
 cell_is_sound_spec =

@@ -1,5 +1,5 @@
 -- `store_check::cells_are_sound` meets its contract.
-use Rattle.prelude.specs.Kit.{◌-◌, arith, rules}
+use Rattle.prelude.specs.Kit.{◌-◌, arith, rules, ap, not}
 use Rattle.semantics.specs.Words.{store_of}
 use Rattle.laws.specs.Tests.{passed, failed}
 use Rattle.store_check.specs.Fitting.{fits}
@@ -17,13 +17,13 @@ decreases_loop slots heads met holders n c₀ c = n - c
 returns : tie.Need-returns-then-not-cell_is_sound invariant_loop decreases_loop
 returns c =
     one_fails c.loop-c.invariant c.cells-n.ensures.is c.loop-c-test.true
-    (by_counts _ _ _ _ (failed c.cell_is_sound.ensures c.if-not-cell_is_sound.true))
+    (by_counts _ _ _ _ (failed c.cell_is_sound.ensures (ap not c.if-not-cell_is_sound.true)))
 
 loop_again : tie.Need-loop-c-preserved invariant_loop decreases_loop
 loop_again c =
     testing_more c.loop-c.invariant
     c.loop-c-test.true
-    (by_counts _ _ _ _ (passed c.cell_is_sound.ensures c.if-not-cell_is_sound.false))
+    (by_counts _ _ _ _ (passed c.cell_is_sound.ensures (ap not c.if-not-cell_is_sound.false)))
 
 returns_2 : tie.Need-returns invariant_loop decreases_loop
 returns_2 c = all_hold c.loop-c.invariant c.cells-n.ensures.is (omega arith)

@@ -23,7 +23,7 @@ loop_again c =
     let w = get_or a.slots.now (a.from + i) (pos 0) in
     let one = c.count_one in (
       omega arith,
-      one.auto.0 ∙ c.loop-i.invariant.1,
+      one.auto.counts ∙ c.loop-i.invariant.1,
       doing_more c.loop-i.invariant.2 (omega (arith, tabulate_length a.n 0 (name_at a.slots.now a.from))) 0
           c.named_cell.result
           (table_at a.n (name_at a.slots.now a.from) i 0 (omega arith)

@@ -24,7 +24,7 @@ loop_again : tie.Need-loop-c-preserved invariant_loop decreases_loop
 loop_again c =
     let a = c.args in
     let one = c.count_one in (
-      one.auto.0 ∙ c.loop-c.invariant.0,
+      one.auto.counts ∙ c.loop-c.invariant.0,
       omega arith,
       following_more c.loop-c.invariant.2 (omega (arith, store_size a.slots.now a.heads.now))
           c.if-left-eq0.false one.ensures c.head_of-c.ensures.next,

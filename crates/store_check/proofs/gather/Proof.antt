@@ -19,7 +19,7 @@ loop_again : tie.Need-loop-c-preserved invariant_loop decreases_loop
 loop_again c =
     let a = c.args in
     let one = c.count_cell in (
-      one.auto.1.1.1.0 ∙ c.loop-c.invariant.0,
+      one.auto.counts ∙ c.loop-c.invariant.0,
       omega arith,
       doing_more c.loop-c.invariant.2 (omega (arith, store_size a.slots.now a.heads.now)) (clear 0) _
           (cell_listed (store_of a.slots.now a.heads.now) c.loop-c.c) one.ensures,

@@ -118,8 +118,8 @@ release_loop_again t c =
     let named = c.named_cell in
     let gone = c.release-freed in (
       omega arith,
-      gone.auto.0 ∙ inv.1,
-      gone.auto.1.0 ∙ inv.2,
+      gone.auto.slots ∙ inv.1,
+      gone.auto.heads ∙ inv.2,
       releasing_more inv.3 c.loop-i-test.true _
           (rw (to_z-of_z {z = w} (record { sfits = c.named_cell-arg-1.given })) at named.ensures) _ _
           gone.ensures,
@@ -128,7 +128,7 @@ release_loop_again t c =
 release_returns_6 : (t : ℕ) → release-lts.Need-returns (release_claims t) (release_at t) release.Post
     release_Inv_loop release_μ_loop
 release_returns_6 t c =
-    let found = c.before.before.before.before.before.before.before.before.before.before.before.before.before.before.before.before.before in released_all _ _ _ _ (omega arith) (inside t found).0 (omega arith) c.if-depth-eq0.false
+    let found = c.before.before.before.before.before.before.before.before.before.before.before.before.before.before.before.before in released_all _ _ _ _ (omega arith) (inside t found).0 (omega arith) c.if-depth-eq0.false
     c.slots_of-words.ensures
     c.at_most-k.ensures c.free-2.ensures
     c.loop-i.invariant.3 (omega arith)

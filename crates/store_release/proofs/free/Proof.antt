@@ -8,12 +8,12 @@ use Rattle.store_release.proofs.free.Tie as tie
 same_length_2 : tie.Need-shape_of-heads
 same_length_2 c =
     let heads = c.args.heads.now in
-    c.write_head.auto.0 ∙ length-set heads 0 _
+    c.write_head.auto.heads ∙ length-set heads 0 _
 
 returns : tie.Need-returns
 returns c = freed_store
     (record {
-      long = c.clear_slots.auto.0;
+      long = c.clear_slots.auto.slots;
       slots_cleared = c.clear_slots.ensures;
       heads_written = c.write_head.ensures;
     })

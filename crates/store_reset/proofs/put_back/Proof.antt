@@ -7,9 +7,8 @@ use Rattle.store_reset.proofs.put_back.Tie as tie
 
 returns : tie.Need-returns
 returns c =
-    let copied = c.before.before.before.before.before.before.before.before in
-    c.before.before.before.relink.ensures ∙ ap₂ (λ slots heads. relinked (store_of slots heads))
-    copied.before.before.before.copy-slots.ensures copied.copy-heads.ensures
+    c.relink.ensures ∙ ap₂ (λ slots heads. relinked (store_of slots heads))
+    c.copy_slots.ensures c.copy_heads.ensures
 
 pub put_back_spec : {M : Type 1} → statement M
 put_back_spec =

@@ -7,42 +7,41 @@ use Rattle.store_reset.proofs.Linking.{Linking, linking_none, linking_step, link
 use Rattle.store_reset.proofs.relink.Statement.{statement}
 use Rattle.store_reset.proofs.relink.Tie as tie
 
-abbrev invariant_loop : tie.invariant_loop
+abbrev invariant_loop : tie.invariant-loop-c
 invariant_loop slots₀ heads₀ n c₀ head₀ slots heads c head =
     (c ≤ n) × LengthsKept slots₀ heads₀ slots heads × Linking (store_of slots₀ heads₀) (store_of slots heads) c head
 
-abbrev decreases_loop : tie.decreases_loop
+abbrev decreases_loop : tie.decreases-loop-c
 decreases_loop slots₀ heads₀ n c₀ head₀ slots heads c head = c
 
-loop_holds : tie.Need-loop-init invariant_loop decreases_loop
+loop_holds : tie.Need-loop-c-init invariant_loop decreases_loop
 loop_holds c =
-    let a = c.before.before.before.before.args in (
+    let a = c.args in (
       omega arith,
       record { slots_long = refl; heads_long = refl },
-      linking_none (store_of a.slots.now a.heads.now) c.cells.result
-          (omega (arith, c.cells.ensures.is, store_size a.slots.now a.heads.now)),
+      linking_none (store_of a.slots.now a.heads.now) c.cells-n.result
+          (omega (arith, c.cells-n.ensures.is, store_size a.slots.now a.heads.now)),
     )
 
-loop_again : tie.Need-loop-preserved invariant_loop decreases_loop
+loop_again : tie.Need-loop-c-preserved invariant_loop decreases_loop
 loop_again c =
-    let turn = c.before.before.before.before.before.before.before in
-    let l = turn.loop in
-    let r = c.before.before.before.relink-cell in (
+    let l = c.loop-c in
+    let r = c.relink_cell-head in (
       omega arith,
-      record { slots_long = r.auto.0 ∙ l.invariant.1.slots_long; heads_long = r.auto.1.0 ∙ l.invariant.1.heads_long },
+      record { slots_long = r.auto.slots ∙ l.invariant.1.slots_long; heads_long = r.auto.heads ∙ l.invariant.1.heads_long },
       linking_step _ _ l.slots l.heads l.c l.head l.invariant.2 (omega arith)
-          (omega (arith, turn.before.cells.ensures.is, cells_kept l.invariant.1)) _ r.result r.ensures.0
+          (omega (arith, c.cells-n.ensures.is, cells_kept l.invariant.1)) _ r.result r.ensures.0
           r.ensures.1,
     )
 
-returns : tie.Need-returns invariant_loop decreases_loop
+returns : tie.Need-returns-then-heads-gt0 invariant_loop decreases_loop
 returns c =
-    let l = c.before.before.loop in
+    let l = c.loop-c in
     linking_all _ _ l.slots l.heads l.c l.head l.invariant.2 (omega arith) (omega arith)
 
-returns_2 : tie.Need-returns-2 invariant_loop decreases_loop
+returns_2 : tie.Need-returns-else-heads-gt0 invariant_loop decreases_loop
 returns_2 c =
-    let l = c.before.before.loop in
+    let l = c.loop-c in
     linking_empty _ _ l.slots l.heads l.c l.head l.invariant.2 (omega arith) (omega arith)
     (omega (arith, l.invariant.1.heads_long))
 

@@ -4,20 +4,20 @@ use Rattle.store_reset.proofs.Copying.{Copying, copying_none, copying_more, copy
 use Rattle.store_reset.proofs.save_heads.Statement.{statement}
 use Rattle.store_reset.proofs.save_heads.Tie as tie
 
-abbrev invariant_loop : tie.invariant_loop
+abbrev invariant_loop : tie.invariant-loop-i
 invariant_loop saved₀ heads i₀ saved i = (i ≤ length heads) × (length saved ≡ length saved₀) × Copying 0 heads saved i
 
-abbrev decreases_loop : tie.decreases_loop
+abbrev decreases_loop : tie.decreases-loop-i
 decreases_loop saved₀ heads i₀ saved i = length heads - i
 
 -- a word that is read has a place in the copy
-room : (c : tie.In-loop invariant_loop decreases_loop) → c.before.loop.i < length c.before.loop.saved
-room c = omega (arith, c.loop-test.true, c.before.loop.invariant.1, c.before.before.requires)
+room : (c : tie.In-loop-i invariant_loop decreases_loop) → c.loop-i.i < length c.loop-i.saved
+room c = omega (arith, c.loop-i-test.true, c.loop-i.invariant.1, c.requires)
 
-loop_again : tie.Need-loop-preserved invariant_loop decreases_loop
+loop_again : tie.Need-loop-i-preserved invariant_loop decreases_loop
 loop_again c =
-    let inv = c.before.before.loop.invariant in (
-      omega (arith, c.before.loop-test.true),
+    let inv = c.loop-i.invariant in (
+      omega (arith, c.loop-i-test.true),
       simp length-set inv.1,
       copying_more inv.2 _ (room c.before) refl,
     )
@@ -27,5 +27,5 @@ save_heads_spec =
     tie.close
     (tie.spec invariant_loop decreases_loop (λ c. (omega arith, refl, copying_none _ _ _)) (λ c. search rules) (λ c. search rules)
     (λ c. search rules) (λ c. room c.before)
-    (λ c. search rules) (λ c. search rules) loop_again (λ c. c.before.loop.invariant.1)
-    (λ c. copying_back c.before.loop.invariant.2 (omega arith)))
+    (λ c. search rules) (λ c. search rules) loop_again (λ c. c.loop-i.invariant.1)
+    (λ c. copying_back c.loop-i.invariant.2 (omega arith)))

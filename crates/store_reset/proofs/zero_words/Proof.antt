@@ -5,7 +5,7 @@ use Rattle.store_reset.proofs.zero_words.Statement.{statement}
 use Rattle.store_reset.proofs.zero_words.Tie as tie
 
 returns : tie.Need-returns
-returns c = zeros_hold _ _ c.before.before.before.before.before.before.before.copy-slots.ensures c.before.before.copy-heads.ensures
+returns c = zeros_hold _ _ c.copy_slots.ensures c.copy_heads.ensures
 
 pub zero_words_spec : {M : Type 1} → statement M
 zero_words_spec =
