@@ -21,7 +21,7 @@ use plain_rows::Line;
 mod leaf;
 
 // A line stands from row p to before row q, in a tree with so many levels of trees below.
-#[derive(Drop)]
+#[derive(Clone, Copy)]
 struct Span {
     p: usize,
     q: usize,

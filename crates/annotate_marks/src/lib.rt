@@ -28,7 +28,7 @@ pub fn then_end_at(notes: &plain_rows::Notes, p: usize) -> usize
 }
 
 // A name, and whether it is live.
-#[derive(Drop)]
+#[derive(Clone, Copy)]
 pub struct Use {
     pub name: u8,
     pub live: bool,
@@ -91,7 +91,7 @@ fn take_atoms(
 }
 
 // The names of two atoms, and whether each is one; where it is none the name is any whose place is written anyway.
-#[derive(Drop)]
+#[derive(Clone, Copy)]
 pub struct Uses {
     pub a: u8,
     pub first: bool,

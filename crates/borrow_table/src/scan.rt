@@ -24,7 +24,7 @@ const REDUCE: u32 = kinds::REDUCE as u32;
 
 // Which of the first eight names a function does not hand over outside of calls, and how many links there are with its
 // own.
-#[derive(Drop)]
+#[derive(Clone, Copy)]
 pub struct Found {
     pub names: [bool; 8],
     pub count: usize,

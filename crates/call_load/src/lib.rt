@@ -6,7 +6,7 @@ use script_read::Place;
 use translate::Laid;
 
 // How many lines the code has and main's depth, or the packed answer of a refusal.
-#[derive(Drop)]
+#[derive(Clone, Copy)]
 pub enum Loaded {
     Ready(usize, u32),
     Refused(u64),

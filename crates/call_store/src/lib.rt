@@ -6,7 +6,7 @@ ghost use Rattle.call_store.specs.Told.{answer_to, Tells};
 
 // How the store's part of a call ends: the number of a stop or 0, the lowest level of a delivery, the steps and the
 // cells taken; or a refusal.
-#[derive(Drop)]
+#[derive(Clone, Copy)]
 pub enum Ended {
     Answered(u8, u32, u64, usize),
     Refused(u8),

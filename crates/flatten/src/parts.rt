@@ -9,7 +9,7 @@ ghost use Rattle.flatten_rows.specs.Made.{out};
 use flatten_rows::{Head, Out, Spot};
 
 // A node that fits: its kind and the two parts of its operand.
-#[derive(Drop)]
+#[derive(Clone, Copy)]
 pub struct Shape {
     pub kind: u8,
     pub low: u8,

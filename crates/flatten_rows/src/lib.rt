@@ -9,7 +9,7 @@ ghost use Rattle.flatten_rows.specs.Laid.{pass_places, loop_place, third_of};
 ghost use Rattle.flatten_rows.specs.Made.{spot, out};
 
 // Where a descent stands: the node, the next new name and the next row.
-#[derive(Drop)]
+#[derive(Clone, Copy)]
 pub struct Spot {
     pub node: usize,
     pub n: usize,
@@ -17,7 +17,7 @@ pub struct Spot {
 }
 
 // What a descent answers: the place of a tree's atom, the node after it, the next new name, the row after its lines.
-#[derive(Drop)]
+#[derive(Clone, Copy)]
 pub struct Out {
     pub place: u16,
     pub next: usize,
@@ -33,7 +33,7 @@ pub fn spot_at(node: usize, n: usize, p: usize) -> Spot
 }
 
 // The first row of a line: its kind, the name that it binds and two numbers more.
-#[derive(Drop)]
+#[derive(Clone, Copy)]
 pub struct Head {
     pub kind: u8,
     pub name: u8,
@@ -247,7 +247,7 @@ pub fn open_loop(
 }
 
 // What the written names of a pass meant before.
-#[derive(Drop)]
+#[derive(Clone, Copy)]
 pub struct Meant {
     pub first: u16,
     pub second: u16,

@@ -21,21 +21,21 @@ use script_rules::Judged;
 const NO_FUNCTION: usize = 4096;
 
 // A tree: its depth and the next line, or the line at fault.
-#[derive(Drop)]
+#[derive(Clone, Copy)]
 pub enum Fit {
     Fits(u8, usize),
     Fault(usize),
 }
 
 // A line: the next one, or the line at fault.
-#[derive(Drop)]
+#[derive(Clone, Copy)]
 pub enum Lined {
     Next(usize),
     Bad(usize),
 }
 
 // What depth a tree is to give, as is tested at its end line.
-#[derive(Drop)]
+#[derive(Clone, Copy)]
 pub enum Wants {
     Any,
     Exactly(u8),

@@ -10,14 +10,14 @@ ghost use Rattle.lent_form.specs.Told.{function_passed, repeated, said, Known, w
 ghost use Rattle.lent_form.specs.Starts.{Answers};
 
 // The next line, or the line at fault.
-#[derive(Drop)]
+#[derive(Clone, Copy)]
 pub enum Read {
     Next(usize),
     Fault(usize),
 }
 
 // How many lines and functions the code has, or the line at fault.
-#[derive(Drop)]
+#[derive(Clone, Copy)]
 pub enum Formed {
     Accepted(usize, usize),
     Refused(usize),
@@ -25,7 +25,7 @@ pub enum Formed {
 
 // How many atoms a line wants: so many, or any number for a call of a function whose line is out of range; or the line
 // is none that may stand in a tree.
-#[derive(Drop)]
+#[derive(Clone, Copy)]
 pub enum Wants {
     Exactly(u8),
     Any,
@@ -33,21 +33,21 @@ pub enum Wants {
 }
 
 // Where the atoms from a line on end; or a name among them is out of range.
-#[derive(Drop)]
+#[derive(Clone, Copy)]
 pub enum Run {
     To(usize),
     Bad,
 }
 
 // The line behind a line and its atoms, with the number of trees that follow, or `ENDS`; or the line at fault.
-#[derive(Drop)]
+#[derive(Clone, Copy)]
 pub enum Line {
     Passed(usize, u8),
     Failed(usize),
 }
 
 // The first part of a function's or a parameter's operand and the line behind it; or the line at fault.
-#[derive(Drop)]
+#[derive(Clone, Copy)]
 pub enum Head {
     Fits(u8, usize),
     Unfit(usize),

@@ -20,7 +20,7 @@ use machine_code::Line;
 pub const NOTHING: u16 = 256;
 
 // What became of a line or a tree: the next line, with the name that is pending there; or the line at fault.
-#[derive(Drop)]
+#[derive(Clone, Copy)]
 pub struct Walked {
     pub fine: bool,
     pub at: usize,

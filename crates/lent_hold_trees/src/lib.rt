@@ -120,7 +120,7 @@ fn held_inside(table: &[u8], f: u8, l: Loop, outer: [u16; 256], at: usize) -> [u
 // ---- trees
 
 // A function by its number, and the levels of trees that are left.
-#[derive(Drop)]
+#[derive(Clone, Copy)]
 pub struct Place {
     pub f: u8,
     pub levels: u64,

@@ -6,7 +6,7 @@ use lent_fit_lines::Lined;
 use lent_form::Formed;
 
 // How many lines code has that passes, or the line at fault.
-#[derive(Drop)]
+#[derive(Clone, Copy)]
 pub enum Judged {
     Passed(usize),
     Refused(usize),

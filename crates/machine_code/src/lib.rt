@@ -8,7 +8,7 @@ use kinds::Atom;
 
 // A loop without its tree: the names of a pass, and the atoms. A reduce has the name of its running value before the
 // element's, and its start before its array. A rewrite is a map in the cell of its array.
-#[derive(Drop)]
+#[derive(Clone, Copy)]
 pub enum Loop {
     Map(u8, Atom),
     Filter(u8, Atom),
@@ -18,7 +18,7 @@ pub enum Loop {
 
 // A line without its trees; it begins with the name that it binds, an operation's with its kind.
 // The atoms of a call and a literal stay in the code. A row of any other kind reads as an operation.
-#[derive(Drop)]
+#[derive(Clone, Copy)]
 pub enum Line {
     Operation(u8, u8, Atom, Atom),
     Call(u8, u8),

@@ -21,7 +21,7 @@ const MOST_SLOTS: usize = 4097;
 const MOST_HEADS: usize = 1025;
 
 // How a delivery ends: the number of its stop or 0, the least number of free cells over it, and the steps taken.
-#[derive(Drop)]
+#[derive(Clone, Copy)]
 pub struct Delivery {
     pub number: u8,
     pub lowest: u32,
@@ -29,7 +29,7 @@ pub struct Delivery {
 }
 
 // The same before the clearing after a stop, with the steps left.
-#[derive(Drop)]
+#[derive(Clone, Copy)]
 pub struct Attempted {
     pub stop: u8,
     pub lowest: u32,

@@ -30,7 +30,7 @@ const LEVEL: usize = 8224;
 const LOWEST: usize = 8225;
 
 // How work ends: the number of its stop or 0, its value, the position where the code goes on, the steps left.
-#[derive(Drop)]
+#[derive(Clone, Copy)]
 pub struct Out {
     pub stop: u8,
     pub value: i64,

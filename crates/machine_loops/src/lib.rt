@@ -20,7 +20,7 @@ use store::Acquired;
 // the word is 1 and not if it is 0, and retains it first where it is an array; a reduce hands it on; a map in the cell
 // of its array overwrites the element. Where that cell had another reference the map fills a new one, and its array is
 // released after the passes.
-#[derive(Drop)]
+#[derive(Clone, Copy)]
 pub enum Way {
     Fill(bool),
     Keep(bool),
@@ -31,7 +31,7 @@ pub enum Way {
 // The passes of a loop: what each does with the word that its tree gave, the names of the running value and of the
 // element, the cell that they go over and how many they are, and what is carried into the first. Where there is no
 // running value both names are the element's.
-#[derive(Drop)]
+#[derive(Clone, Copy)]
 pub struct Passes {
     pub way: Way,
     pub first: u8,
@@ -42,21 +42,21 @@ pub struct Passes {
 }
 
 // What is carried into the first pass: a word, unless there is no cell for the result.
-#[derive(Drop)]
+#[derive(Clone, Copy)]
 pub enum First {
     Word(i64),
     NoneFree,
 }
 
 // What a pass carries on: a word, unless a filter's tree gave another word than 1 and 0.
-#[derive(Drop)]
+#[derive(Clone, Copy)]
 pub enum Next {
     Word(i64),
     BadGuard,
 }
 
 // How a loop begins: with its passes, unless there is no cell for the result.
-#[derive(Drop)]
+#[derive(Clone, Copy)]
 pub enum Begun {
     Ready(Passes),
     NoneFree,

@@ -19,7 +19,7 @@ pub type Notes = [u16; ROWS];
 // A line without its trees; it begins with the name that it binds. One that reads one or two atoms, and a loop, have
 // their kind next. A call has its function, a literal its element depth, and both how many atoms follow in the code.
 // A loop has the names of a pass and its atoms: a reduce two of each, the others only the first.
-#[derive(Drop)]
+#[derive(Clone, Copy)]
 pub enum Line {
     Unary(u8, u8, Atom),
     Binary(u8, u8, Atom, Atom),
@@ -197,7 +197,7 @@ pub fn add(s: [bool; 256], a: Atom) -> [bool; 256]
 }
 
 // A name, and whether it is in a set.
-#[derive(Drop)]
+#[derive(Clone, Copy)]
 pub struct Member {
     pub name: u8,
     pub member: bool,

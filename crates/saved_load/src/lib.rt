@@ -7,7 +7,7 @@ ghost use Rattle.saved_load.specs.Entries.{Ended, Filled, place, fill, elements_
 use store::Acquired;
 
 // The word of a value, the number of the entry after it and how many free cells remain; or that no cell was free.
-#[derive(Drop)]
+#[derive(Clone, Copy)]
 pub enum Loaded {
     Word(i64, usize, u32),
     NoneFree,

@@ -5,7 +5,7 @@ ghost use Rattle.semantics.specs.Saved.{value_at};
 ghost use Rattle.saved_read.specs.Told.{read_outcome, told, readable};
 
 // The number of the entry after a value, or that the form is broken.
-#[derive(Drop)]
+#[derive(Clone, Copy)]
 pub enum Read {
     Next(usize),
     Broken,

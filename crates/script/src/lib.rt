@@ -8,7 +8,7 @@ use script_count::Counted;
 use script_read::Read;
 
 // How many functions and nodes an accepted file has, or a refusal's number and node.
-#[derive(Drop)]
+#[derive(Clone, Copy)]
 pub enum Verdict {
     Accepted(usize, usize),
     Refused(u8, usize),

@@ -4,7 +4,7 @@ ghost use Rattle.script_count.specs.Count.{new_names, crowd_ends, start_after, c
 ghost use Rattle.script_count.specs.Count.{counted_outcome, crowd_outcome};
 
 // The node of a function with too many names, if there is one.
-#[derive(Drop)]
+#[derive(Clone, Copy)]
 pub enum Counted {
     Within,
     Over(usize),

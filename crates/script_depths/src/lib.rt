@@ -13,7 +13,7 @@ use script_rules::{Head, Judged};
 pub const UNKNOWN: u8 = 255;
 
 // A depth and the next node, or a node that breaks the rule.
-#[derive(Drop)]
+#[derive(Clone, Copy)]
 pub enum Typed {
     Depth(u8, usize),
     Fault(usize),

@@ -8,7 +8,7 @@ ghost use Rattle.script_names.specs.Walk.{names_function};
 use script_read::{Node, Place, Read};
 
 // What a node binds in its last part: how many parts come before it, and two names, which are one where it binds one.
-#[derive(Drop)]
+#[derive(Clone, Copy)]
 struct Binding {
     before: u8,
     first: u8,

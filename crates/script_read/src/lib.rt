@@ -9,7 +9,7 @@ ghost use Rattle.script_read.specs.Told.{repeated, marked, said_parts, loops, se
 ghost use Rattle.script_read.specs.Starts.{Blank, Started_by};
 
 // Where a node stands.
-#[derive(Drop)]
+#[derive(Clone, Copy)]
 pub enum Place {
     Function,
     Parameter,
@@ -17,7 +17,7 @@ pub enum Place {
 }
 
 // A node: its kind and the two parts of its operand (low + 256 * high), or what is wrong with it.
-#[derive(Drop)]
+#[derive(Clone, Copy)]
 pub enum Node {
     Fits(u8, u8, u8),
     WrongKind,
@@ -25,7 +25,7 @@ pub enum Node {
 }
 
 // A node that is an atom: a number, or a name; or any other node.
-#[derive(Drop)]
+#[derive(Clone, Copy)]
 pub enum Atomic {
     Number,
     Name(u8),
@@ -33,7 +33,7 @@ pub enum Atomic {
 }
 
 // The next node, or a refusal: its number and its node.
-#[derive(Drop)]
+#[derive(Clone, Copy)]
 pub enum Read {
     Next(usize),
     Refused(u8, usize),

@@ -8,7 +8,7 @@ ghost use Rattle.script_rules.specs.Rules.{loop_ruled, judged_outcome, rule_outc
 use script_read::Place;
 
 // A node: its kind and the two parts of its operand.
-#[derive(Drop)]
+#[derive(Clone, Copy)]
 pub struct Head {
     pub kind: u8,
     pub low: u8,
@@ -16,7 +16,7 @@ pub struct Head {
 }
 
 // A node's depth, or that it breaks its rule.
-#[derive(Drop)]
+#[derive(Clone, Copy)]
 pub enum Judged {
     Has(u8),
     Broken,

@@ -19,7 +19,7 @@ pub fn retain(slots: &[i64], heads: &mut [u32], c: usize)
 }
 
 // What an acquire answers: the cell and how many free cells remain, or that none is free.
-#[derive(Drop)]
+#[derive(Clone, Copy)]
 pub enum Acquired {
     Cell(usize, u32),
     NoneFree,

@@ -10,7 +10,7 @@ ghost use Rattle.store_check.specs.Holders.{tally_one, tally, named_from, held, 
 ghost use Rattle.store_check.specs.Fitting.{HeadOf, head_fits, used_from, cell_fits, fits};
 
 // A cell's head.
-#[derive(Drop)]
+#[derive(Clone, Copy)]
 struct Head {
     count: u32,
     size: usize,

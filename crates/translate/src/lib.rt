@@ -8,7 +8,7 @@ ghost use Rattle.translate_script.specs.Places.{Places_by};
 ghost use Rattle.translate.specs.Left.{laid_outcome, Leaves};
 
 // How many lines the code has, or that they do not fit.
-#[derive(Drop)]
+#[derive(Clone, Copy)]
 pub enum Laid {
     Lines(usize),
     TooLong,

@@ -5,7 +5,7 @@ ghost use Rattle.semantics.specs.Calls.{packed};
 ghost use Rattle.words.specs.Words.{exact_outcome, checked, Unpacked};
 
 // A number in 64 bits, or none.
-#[derive(Drop)]
+#[derive(Clone, Copy)]
 pub enum Exact {
     Value(i64),
     Overflow,
@@ -165,7 +165,7 @@ pub fn signed_at(bytes: &[u8], i: usize) -> i64
 }
 
 // The parts of a call's answer: number, node, steps or code lines, cells taken.
-#[derive(Drop)]
+#[derive(Clone, Copy)]
 pub struct Answer {
     pub number: u64,
     pub node: u64,

@@ -9,8 +9,8 @@ use Rattle.annotate_rows.proofs.put_release.Tie as tie
 
 returns : tie.Need-returns
 returns c =
-    let a = c.before.before.before.before.before.before.before.before.args in
-    wrote_as (ap (λ (l : List ℕ). release_rows l) (dying_one (depth_in a.depths.now) a.x (set_of a.live.now) (search rules))) c.before.before.before.release-one.ensures
+    let a = c.args in
+    wrote_as (ap (λ (l : List ℕ). release_rows l) (dying_one (depth_in a.depths.now) a.x (set_of a.live.now) (search rules))) c.release_one.ensures
 
 pub put_release_spec : {M : Type 1} → statement M
 put_release_spec =

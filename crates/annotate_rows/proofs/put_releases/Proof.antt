@@ -9,17 +9,17 @@ use Rattle.annotate_rows.proofs.Names.{releases_from, release_none, release_belo
 use Rattle.annotate_rows.proofs.put_releases.Statement.{statement}
 use Rattle.annotate_rows.proofs.put_releases.Tie as tie
 
-abbrev invariant_loop : tie.invariant_loop
+abbrev invariant_loop : tie.invariant-loop-i
 invariant_loop ks₀ os₀ depths n used live w at₀ i₀ ks os at i =
     (i ≤ n) × (n ≤ 256) × Room ks os at
     × Wrote ks₀ os₀ ks os w at (releases_from (depth_in depths) (below n (set_of used)) (set_of live) i)
 
-abbrev decreases_loop : tie.decreases_loop
+abbrev decreases_loop : tie.decreases-loop-i
 decreases_loop ks₀ os₀ depths n used live w at₀ i₀ ks os at i = i
 
-loop_holds : tie.Need-loop-init invariant_loop decreases_loop
+loop_holds : tie.Need-loop-i-init invariant_loop decreases_loop
 loop_holds c =
-    let a = c.before.args in (
+    let a = c.args in (
       omega arith,
       omega arith,
       search rules,
@@ -27,12 +27,12 @@ loop_holds c =
           (set_of a.live.now) a.n,
     )
 
-loop_again : tie.Need-loop-preserved invariant_loop decreases_loop
+loop_again : tie.Need-loop-i-preserved invariant_loop decreases_loop
 loop_again c =
-    let at-release-one = c.before.before.before.release-one in
-    let at-loop-test = c.before.before.before.before.before.before.before.before.loop-test in
-    let at-loop = c.before.before.before.before.before.before.before.before.before.loop in
-    let a = c.before.before.before.before.before.before.before.before.before.before.before.args in
+    let at-release-one = c.release_one-v in
+    let at-loop-test = c.loop-i-test in
+    let at-loop = c.loop-i in
+    let a = c.args in
     let v = at-loop.invariant in (
       omega arith,
       v.1,
@@ -44,8 +44,8 @@ loop_again c =
 
 returns : tie.Need-returns invariant_loop decreases_loop
 returns c =
-    let a = c.before.before.before.args in
-    release_all (depth_in a.depths.now) (below a.n (set_of a.used.now)) (set_of a.live.now) c.loop-test.false c.before.loop.invariant.3
+    let a = c.args in
+    release_all (depth_in a.depths.now) (below a.n (set_of a.used.now)) (set_of a.live.now) c.loop-i-test.false c.loop-i.invariant.3
 
 pub put_releases_spec : {M : Type 1} → statement M
 put_releases_spec =

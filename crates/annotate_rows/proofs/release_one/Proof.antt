@@ -6,31 +6,31 @@ use Rattle.prelude.specs.Kit.{◌-◌, rules}
 use Rattle.annotate_rows.proofs.release_one.Statement.{statement}
 use Rattle.annotate_rows.proofs.release_one.Tie as tie
 
-returns : tie.Need-returns
+returns : tie.Need-returns-then-live
 returns c =
-    let a = c.before.before.before.before.before.args in
-    wrote_as (release_live a.x a.used a.live (depth_in a.depths.now a.x) c.if3.true) wrote_none
+    let a = c.args in
+    wrote_as (release_live a.x a.used a.live (depth_in a.depths.now a.x) c.if-live.true) wrote_none
 
-returns_2 : tie.Need-returns-2
+returns_2 : tie.Need-returns-then-used
 returns_2 c =
-    let at-if3 = c.before.before.before.before.before.before.if3 in
-    let at-if2 = c.before.before.before.before.before.before.before.if2 in
-    let at-if1 = c.before.before.before.before.before.before.before.before.if1 in
-    let at-depth-at = c.before.before.before.before.before.before.before.before.before.depth_at in
-    let a = c.before.before.before.before.before.before.before.before.before.before.before.args in
+    let at-if3 = c.if-live in
+    let at-if2 = c.if-used in
+    let at-if1 = c.if-d-gt0 in
+    let at-depth-at = c.depth_at-d in
+    let a = c.args in
     wrote_as (release_on a.x a.used a.live at-depth-at.result _ at-if2.true at-depth-at.ensures
-    at-if1.true at-if3.false) c.before.before.before.put-row.ensures
+    at-if1.true at-if3.false) c.put_row.ensures
 
-returns_3 : tie.Need-returns-3
+returns_3 : tie.Need-returns-then-d-gt0
 returns_3 c =
-    let a = c.before.before.before.before.args in
-    wrote_as (release_unused a.x a.used a.live (depth_in a.depths.now a.x) c.if2.false) wrote_none
+    let a = c.args in
+    wrote_as (release_unused a.x a.used a.live (depth_in a.depths.now a.x) c.if-used.false) wrote_none
 
-returns_4 : tie.Need-returns-4
+returns_4 : tie.Need-returns
 returns_4 c =
-    let at-depth-at = c.before.depth_at in
-    let a = c.before.before.before.args in
-    wrote_as (release_number a.x a.used a.live at-depth-at.result _ at-depth-at.ensures c.if1.false) wrote_none
+    let at-depth-at = c.depth_at-d in
+    let a = c.args in
+    wrote_as (release_number a.x a.used a.live at-depth-at.result _ at-depth-at.ensures c.if-d-gt0.false) wrote_none
 
 pub release_one_spec : {M : Type 1} → statement M
 release_one_spec =

@@ -7,24 +7,23 @@ use Rattle.annotate_rows.proofs.Names.{handed_on, handed_off, handed_number}
 use Rattle.annotate_rows.proofs.retain_atom.Statement.{statement}
 use Rattle.annotate_rows.proofs.retain_atom.Tie as tie
 
-returns : tie.Need-returns
+returns : tie.Need-returns-then-later-x
 returns c =
-    let at-if1 = c.before.before.before.before.before.before.if1 in
-    let at_a = c.before.before.before.before.before.before.before.before.before.a in
-    let a = c.before.before.before.before.before.before.before.before.before.before.before.before.args in
-    rw at_a.given.1 (wrote_as (ap (λ (l : List ℕ). retain_rows l) (handed_on (depth_in a.depths.now) _
-    (set_of a.later.now) at-if1.true)) c.before.before.before.put-retain.ensures)
+    let at-if1 = c.if-later-x in
+    let a = c.args in
+    rw c.in-Name.is (wrote_as (ap (λ (l : List ℕ). retain_rows l) (handed_on (depth_in a.depths.now) _
+    (set_of a.later.now) at-if1.true)) c.put_retain.ensures)
 
-returns_2 : tie.Need-returns-2
+returns_2 : tie.Need-returns-in-Number
 returns_2 c =
-    let a = c.before.before.before.args in
-    rw c.enum_told.given.1 (wrote_as (ap (λ (l : List ℕ). retain_rows l) (handed_number (depth_in a.depths.now) _ (set_of a.later.now))) wrote_none)
+    let a = c.args in
+    rw c.in-Number.is (wrote_as (ap (λ (l : List ℕ). retain_rows l) (handed_number (depth_in a.depths.now) _ (set_of a.later.now))) wrote_none)
 
-returns_3 : tie.Need-returns-3
+returns_3 : tie.Need-returns-else-later-x
 returns_3 c =
-    let a = c.before.before.before.before.before.before.args in
-    rw c.before.before.before.a.given.1 (wrote_as (ap (λ (l : List ℕ). retain_rows l) (handed_off (depth_in
-    a.depths.now) _ (set_of a.later.now) c.if1.false)) wrote_none)
+    let a = c.args in
+    rw c.in-Name.is (wrote_as (ap (λ (l : List ℕ). retain_rows l) (handed_off (depth_in
+    a.depths.now) _ (set_of a.later.now) c.if-later-x.false)) wrote_none)
 
 pub retain_atom_spec : {M : Type 1} → statement M
 retain_atom_spec =

@@ -6,17 +6,15 @@ use Rattle.call_store.proofs.Laws.{packed_alone, packed_number}
 use Rattle.call_store.proofs.answer.Statement.{statement}
 use Rattle.call_store.proofs.answer.Tie as tie
 
-returns : tie.Need-returns
+returns : tie.Need-returns-in-Answered
 returns c =
-    let parts = c.before.before.ended.given.0 in
-    subst (λ (e : Ended). c.pack.result ≡ answer_to e) (sym c.before.before.ended.given.1)
-    (c.pack.ensures ∙ packed_number parts.0 parts.1.0 parts.1.1.0 parts.1.1.1.0
-    (omega (arith, c.before.known-told.given.0.1)))
+    subst (λ (e : Ended). c.pack.result ≡ answer_to e) (sym c.in-Answered.is)
+    (c.pack.ensures ∙ packed_number c.in-Answered.number c.in-Answered.lowest c.in-Answered.steps c.in-Answered.cells
+    (omega (arith, c.in-Answered.known_told-1-own.given.0.1)))
 
-returns_2 : tie.Need-returns-2
+returns_2 : tie.Need-returns-in-Refused
 returns_2 c =
-    let told = c.before.ended2.given in
-    packed_alone told.0.0 ∙ ap answer_to (sym told.1)
+    packed_alone c.in-Refused.number ∙ ap answer_to (sym c.in-Refused.is)
 
 pub answer_spec : {M : Type 1} → statement M
 answer_spec =

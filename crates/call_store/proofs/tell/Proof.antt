@@ -5,20 +5,18 @@ use Rattle.call_store.specs.Told.{answer_to, Tells}
 use Rattle.call_store.proofs.tell.Statement.{statement}
 use Rattle.call_store.proofs.tell.Tie as tie
 
-returns : tie.Need-returns
+returns : tie.Need-returns-in-Answered
 returns c =
-    let told = c.before.enum_told.given in
-    let a = c.before.before.before.before.args in
+    let a = c.args in
     subst (λ (e : Ended). Tells e a.kinds.now a.operands.now c.answer.result a.kinds.now
-    a.operands.now) (sym told.1) (c.answer.ensures ∙ ap answer_to told.1, (refl, refl))
+    a.operands.now) (sym c.in-Answered.is) (c.answer.ensures ∙ ap answer_to c.in-Answered.is, (refl, refl))
 
-returns_2 : tie.Need-returns-2
+returns_2 : tie.Need-returns-in-Refused
 returns_2 c =
-    let told = c.before.before.before.before.before.before.before.enum-told2.given in
-    let a = c.before.before.before.before.before.before.before.before.before.before.args in
-    let cleared = c.before.before.before.before.clear-code in
-    subst (λ (e : Ended). Tells e a.kinds.now a.operands.now c.answer2.result cleared.new.0
-    cleared.new.1.0) (sym told.1) (c.answer2.ensures ∙ ap answer_to told.1, cleared.ensures)
+    let a = c.args in
+    let cleared = c.clear_code in
+    subst (λ (e : Ended). Tells e a.kinds.now a.operands.now c.answer-in-Refused.result cleared.new.kinds
+    cleared.new.operands) (sym c.in-Refused.is) (c.answer-in-Refused.ensures ∙ ap answer_to c.in-Refused.is, cleared.ensures)
 
 pub tell_spec : {M : Type 1} → statement M
 tell_spec =

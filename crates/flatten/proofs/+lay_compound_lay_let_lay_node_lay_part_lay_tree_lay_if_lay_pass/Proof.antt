@@ -33,8 +33,8 @@ mod Part
 mod Pass
 mod Tree
 
-pub +lay-compound-lay-let-lay-node-lay-part-lay-tree-lay-if-lay-pass-spec : {M : Type 1} → statement M
-+lay-compound-lay-let-lay-node-lay-part-lay-tree-lay-if-lay-pass-spec =
+pub +lay_compound_lay_let_lay_node_lay_part_lay_tree_lay_if_lay_pass_spec : {M : Type 1} → statement M
++lay_compound_lay_let_lay_node_lay_part_lay_tree_lay_if_lay_pass_spec =
     close common.μ_lay_compound common.μ_lay_let common.μ_lay_node common.μ_lay_part common.μ_lay_tree
     common.μ_lay_if common.μ_lay_pass
     (λ t. lay-compound-lts.spec (common.lay_compound_claims t) (common.lay_compound_at t) lay-compound.Post

@@ -5,42 +5,38 @@ use Rattle.lent_fit_lines.specs.Walk.{count_at, first_at, start_of}
 use Rattle.lent_fit_lines.proofs.atoms_of.Statement.{statement}
 use Rattle.lent_fit_lines.proofs.atoms_of.Tie as tie
 
-returns : tie.Need-returns
+returns : tie.Need-returns-in-8
 unfolding count_at
 returns c =
-    let at-second-at = c.before.before in
-    let at-match = at-second-at.before in
-    let start = at-match.before in
-    let a = start.args in
+    let a = c.args in
     c.first_at.ensures
     ∙ ap (first_at a.operands.now)
-    (c.before.start_of.ensures ∙ ap (start_of a.starts.now) at-second-at.second_at.ensures)
-    ∙ sym (count_is a.operands.now a.starts.now a.at a.kind 8 at-match.match.keys1)
+    (c.start_of.ensures ∙ ap (start_of a.starts.now) c.second_at.ensures)
+    ∙ sym (count_is a.operands.now a.starts.now a.at a.kind 8 c.in-8.is)
 
-returns_2 : tie.Need-returns-2
+returns_2 : tie.Need-returns-in-9
 unfolding count_at
 returns_2 c =
-    let start = c.before.before in
-    let a = start.args in
-    c.second-at2.ensures
-    ∙ sym (count_is a.operands.now a.starts.now a.at a.kind 9 c.before.match.keys2)
+    let a = c.args in
+    c.second_at-in-9.ensures
+    ∙ sym (count_is a.operands.now a.starts.now a.at a.kind 9 c.in-9.is)
 
-returns_3 : tie.Need-returns-3
+returns_3 : tie.Need-returns-in-11
 unfolding count_at
 returns_3 c =
-    let a = c.before.args in
-    sym (count_is a.operands.now a.starts.now a.at a.kind 11 c.match.keys3)
+    let a = c.args in
+    sym (count_is a.operands.now a.starts.now a.at a.kind 11 c.in-11.is)
 
-returns_4 : tie.Need-returns-4
+returns_4 : tie.Need-returns-in-17
 unfolding count_at
 returns_4 c =
-    let a = c.before.args in
-    sym (count_is a.operands.now a.starts.now a.at a.kind 17 c.match.keys4)
+    let a = c.args in
+    sym (count_is a.operands.now a.starts.now a.at a.kind 17 c.in-17.is)
 
-returns_5 : tie.Need-returns-5
+returns_5 : tie.Need-returns-in_default
 unfolding count_at
 returns_5 c =
-    let r = c.match.rest in
+    let r = c.in_default.in_default-own.rest in
     rw (ne_eqb _ 8 r.0.0.0.1, ne_eqb _ 9 r.0.0.1, ne_eqb _ 11 r.0.1, ne_eqb _ 17 r.1)
 
 pub atoms_of_spec : {M : Type 1} → statement M

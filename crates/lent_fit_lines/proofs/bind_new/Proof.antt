@@ -4,15 +4,14 @@ use Rattle.lent_fit_lines.proofs.Openings.{closed}
 use Rattle.lent_fit_lines.proofs.bind_new.Statement.{statement}
 use Rattle.lent_fit_lines.proofs.bind_new.Tie as tie
 
-returns : tie.Need-returns
+returns : tie.Need-returns-then-bound-x
 returns c =
-    let start = c.before.before in
-    closed _ (ap not c.if1.true) start.requires.0 start.requires.1
+    closed _ (ap not c.if-bound-x.true) c.requires.0 c.requires.1
 
-returns_2 : tie.Need-returns-2
+returns_2 : tie.Need-returns
 returns_2 c =
     record {
-      is = sym (ap not c.before.before.before.if1.false);
+      is = sym (ap not c.if-bound-x.false);
       gives = λ z. c.bind.ensures.0;
       long = c.bind.ensures.1;
       deep = c.bind.ensures.2;

@@ -7,10 +7,9 @@ use Rattle.lent_fit_lines.proofs.bits_at.Tie as tie
 
 returns : tie.Need-returns
 returns c =
-    let start = c.before.before in
-    let a = start.args in
-    let o = c.before.Operand-at in
-    let e = rw (to_z-of_z {z = o.result} (record { sfits = o.type-inv })) at c.low_bits.ensures
+    let a = c.args in
+    let o = c.operand_at in
+    let e = rw (to_z-of_z {z = o.result} (record { sfits = o.type_inv })) at c.low_bits.ensures
     ∙ ap low_bits o.ensures in
     (e, omega (arith, e, bits_small (get_or a.operands.now a.at (pos 0))))
 

@@ -4,33 +4,27 @@ use Rattle.lent_fit_lines.proofs.Lines.{call_past, call_fits, call_not}
 use Rattle.lent_fit_lines.proofs.call_depth.Statement.{statement}
 use Rattle.lent_fit_lines.proofs.call_depth.Tie as tie
 
-returns : tie.Need-returns
+returns : tie.Need-returns-then-operands-start
 returns c =
-    let start = c.before in
-    let a = start.args in
-    call_past a.operands.now a.n a.ds.now a.start start.requires.2 c.if1.true
+    let a = c.args in
+    call_past a.operands.now a.n a.ds.now a.start c.requires.2 c.if-operands-start.true
 
-parameters_match_requires : tie.Need-parameters-match-requires
+parameters_match_requires : tie.Need-parameters_match-requires
 parameters_match_requires c κs =
-    let start = c.before in
-    (start.requires.0, start.requires.1, omega (arith, c.if1.false))
+    (c.requires.0, c.requires.1, omega (arith, c.if-operands-start.false))
 
-returns_2 : tie.Need-returns-2
+returns_2 : tie.Need-returns-then-parameters_match
 returns_2 c =
-    let at-parameters-match = c.before.before in
-    let start = at-parameters-match.before.before in
-    let a = start.args in
-    call_fits a.operands.now a.n a.ds.now a.start start.requires.2
-    at-parameters-match.parameters-match.result at-parameters-match.parameters-match.ensures
-    c.before.if2.true c.second_at.result c.second_at.ensures
+    let a = c.args in
+    call_fits a.operands.now a.n a.ds.now a.start c.requires.2
+    c.parameters_match.result c.parameters_match.ensures
+    c.if-parameters_match.true c.second_at.result c.second_at.ensures
 
-returns_3 : tie.Need-returns-3
+returns_3 : tie.Need-returns
 returns_3 c =
-    let at-parameters-match = c.before in
-    let start = at-parameters-match.before.before in
-    let a = start.args in
-    call_not a.operands.now a.n a.ds.now a.start start.requires.2
-    at-parameters-match.parameters-match.result at-parameters-match.parameters-match.ensures c.if2.false
+    let a = c.args in
+    call_not a.operands.now a.n a.ds.now a.start c.requires.2
+    c.parameters_match.result c.parameters_match.ensures c.if-parameters_match.false
 
 pub call_depth_spec : {M : Type 1} → statement M
 call_depth_spec =

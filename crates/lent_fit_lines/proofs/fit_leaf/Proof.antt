@@ -5,136 +5,97 @@ use Rattle.lent_fit_lines.specs.Walk.{set_of}
 use Rattle.lent_fit_lines.proofs.fit_leaf.Statement.{statement}
 use Rattle.lent_fit_lines.proofs.fit_leaf.Tie as tie
 
-returns : tie.Need-returns
+returns : tie.Need-returns-then-n-gt16
 returns c =
-    let at-atoms-of = c.before in
-    let start = at-atoms-of.before.before in
-    let a = start.args in
+    let a = c.args in
     record {
       is = leaf_many a.kinds.now a.operands.now a.starts.now a.kind (set_of a.scope.now)
-          a.bound.now a.depths.now a.at at-atoms-of.atoms_of.result at-atoms-of.atoms_of.ensures
-          c.if1.true a.bound.now a.depths.now;
-      long = start.requires.3;
-      deep = start.requires.4;
+          a.bound.now a.depths.now a.at c.atoms_of-n.result c.atoms_of-n.ensures
+          c.if-n-gt16.true a.bound.now a.depths.now;
+      long = c.requires.3;
+      deep = c.requires.4;
     }
 
 gather_requires : tie.Need-gather-requires
 gather_requires c κs =
-    let at-if1 = c.before.before in
-    let start = at-if1.before.before.before in
-    (start.requires.0, omega (arith, start.requires.1), omega (arith, at-if1.if1.false), refl)
+    (c.requires.0, omega (arith, c.requires.1), omega (arith, c.if-n-gt16.false), refl)
 
-returns_2 : tie.Need-returns-2
+returns_2 : tie.Need-returns-then-not-gather
 returns_2 c =
-    let at-gather = c.before in
-    let at-if1 = at-gather.before.before.before in
-    let at-atoms-of = at-if1.before in
-    let start = at-atoms-of.before.before in
-    let a = start.args in
+    let a = c.args in
     record {
       is = leaf_out a.kinds.now a.operands.now a.starts.now a.kind (set_of a.scope.now)
-          a.bound.now a.depths.now a.at at-atoms-of.atoms_of.result at-atoms-of.atoms_of.ensures
-          (omega (arith, at-if1.if1.false)) at-gather.gather.result
-          at-gather.gather.new.1.1.1.1.1.1.0 at-gather.gather.ensures (not-true _ c.if2.true)
+          a.bound.now a.depths.now a.at c.atoms_of-n.result c.atoms_of-n.ensures
+          (omega (arith, c.if-n-gt16.false)) c.gather.result
+          c.gather.new.ds c.gather.ensures c.if-not-gather.true
           a.bound.now a.depths.now;
-      long = start.requires.3;
-      deep = start.requires.4;
+      long = c.requires.3;
+      deep = c.requires.4;
     }
 
-leaf_depth_requires : tie.Need-leaf-depth-requires
+leaf_depth_requires : tie.Need-leaf_depth-requires
 leaf_depth_requires c κs =
-    let at-gather = c.before.before in
-    let at-if1 = at-gather.before.before.before in
-    let at-atoms-of = at-if1.before in
-    let start = at-atoms-of.before.before in (
-      start.requires.2,
-      at-gather.gather.ensures.long,
-      omega (arith, at-if1.if1.false),
-      at-atoms-of.atoms_of.ensures,
+    (
+      c.requires.2,
+      c.gather.ensures.long,
+      omega (arith, c.if-n-gt16.false),
+      c.atoms_of-n.ensures,
     )
 
-bind_new_requires : tie.Need-bind-new-requires
+bind_new_requires : tie.Need-bind_new-requires
 bind_new_requires c κs =
-    let start = c.before.before.before.before.before.before.before.before.before.before.before.before.before.before.before in
-    (start.pre.3, start.pre.4)
+    (c.before.before.before.before.before.before.before.before.before.before.before.before.pre.3, c.before.before.before.before.before.before.before.before.before.before.before.before.pre.4)
 
-add_t25 : tie.Need-overflow-add-t25
+add_t25 : tie.Need-overflow_add-result
 add_t25 c =
-    let start = c.before.before.before.before.before.before.before.before.before.before.before.before.before.before.before.before.before in
-    omega (arith, start.pre.0.2, start.pre.1)
+    omega (arith, c.before.before.before.before.before.before.before.before.before.before.before.before.before.before.pre.0.2, c.before.before.before.before.before.before.before.before.before.before.before.before.before.before.pre.1)
 
-add_t26 : tie.Need-overflow-add-t26
+add_t26 : tie.Need-overflow_add-result-then-bind_new
 add_t26 c =
-    let at-if1 = c.before.before.before.before.before.before.before.before.before.before.before.before.before.before in
-    let start = at-if1.before.before.before in
-    omega (arith, start.pre.0.2, start.pre.1, at-if1.if1.left)
+    omega (arith, c.before.before.before.before.before.before.before.before.before.before.before.before.before.before.pre.0.2, c.before.before.before.before.before.before.before.before.before.before.before.before.before.before.pre.1, c.if-n-gt16.left)
 
-returns_3 : tie.Need-returns-3
+returns_3 : tie.Need-returns-then-bind_new
 returns_3 c =
-    let at-bind-new = c.before in
-    let at-first-at = at-bind-new.before in
-    let at-d = at-first-at.before.before.before.before in
-    let at-leaf-depth = at-d.before.before in
-    let at-if2 = at-leaf-depth.before.before in
-    let at-gather = at-if2.before in
-    let at-if1 = at-gather.before.before.before in
-    let at-atoms-of = at-if1.before in
-    let start = at-atoms-of.before.before in
-    let a = start.args in
+    let a = c.args in
     record {
       is = leaf_bound a.kinds.now a.operands.now a.starts.now a.kind (set_of a.scope.now)
-          a.bound.now a.depths.now a.at at-atoms-of.atoms_of.result at-atoms-of.atoms_of.ensures
-          (omega (arith, at-if1.if1.false)) at-gather.gather.result
-          at-gather.gather.new.1.1.1.1.1.1.0 at-gather.gather.ensures (not-false _ at-if2.if2.false)
-          at-leaf-depth.leaf_depth.result at-leaf-depth.leaf_depth.ensures _ at-d.d.given.1
-          at-first-at.first_at.result at-first-at.first_at.ensures at-bind-new.bind-new.result _ _
-          at-bind-new.bind-new.ensures c.if3.true;
-      long = at-bind-new.bind-new.ensures.long;
-      deep = at-bind-new.bind-new.ensures.deep;
+          a.bound.now a.depths.now a.at c.atoms_of-n.result c.atoms_of-n.ensures
+          (omega (arith, c.if-n-gt16.false)) c.gather.result
+          c.gather.new.ds c.gather.ensures c.if-not-gather.false
+          c.leaf_depth.result c.leaf_depth.ensures _ c.in-Has.is
+          c.first_at.result c.first_at.ensures c.bind_new.result _ _
+          c.bind_new.ensures c.if-bind_new.true;
+      long = c.bind_new.ensures.long;
+      deep = c.bind_new.ensures.deep;
     }
 
-returns_4 : tie.Need-returns-4
+returns_4 : tie.Need-returns-else-bind_new
 returns_4 c =
-    let at-bind-new = c.before in
-    let at-first-at = at-bind-new.before in
-    let at-d = at-first-at.before.before.before.before in
-    let at-leaf-depth = at-d.before.before in
-    let at-if2 = at-leaf-depth.before.before in
-    let at-gather = at-if2.before in
-    let at-if1 = at-gather.before.before.before in
-    let at-atoms-of = at-if1.before in
-    let start = at-atoms-of.before.before in
-    let a = start.args in
+    let a = c.args in
     record {
       is = leaf_again a.kinds.now a.operands.now a.starts.now a.kind (set_of a.scope.now)
-          a.bound.now a.depths.now a.at at-atoms-of.atoms_of.result at-atoms-of.atoms_of.ensures
-          (omega (arith, at-if1.if1.false)) at-gather.gather.result
-          at-gather.gather.new.1.1.1.1.1.1.0 at-gather.gather.ensures (not-false _ at-if2.if2.false)
-          at-leaf-depth.leaf_depth.result at-leaf-depth.leaf_depth.ensures _ at-d.d.given.1
-          at-first-at.first_at.result at-first-at.first_at.ensures at-bind-new.bind-new.result _ _
-          at-bind-new.bind-new.ensures c.if3.false;
-      long = at-bind-new.bind-new.ensures.long;
-      deep = at-bind-new.bind-new.ensures.deep;
+          a.bound.now a.depths.now a.at c.atoms_of-n.result c.atoms_of-n.ensures
+          (omega (arith, c.if-n-gt16.false)) c.gather.result
+          c.gather.new.ds c.gather.ensures c.if-not-gather.false
+          c.leaf_depth.result c.leaf_depth.ensures _ c.in-Has.is
+          c.first_at.result c.first_at.ensures c.bind_new.result _ _
+          c.bind_new.ensures c.if-bind_new.false;
+      long = c.bind_new.ensures.long;
+      deep = c.bind_new.ensures.deep;
     }
 
-returns_5 : tie.Need-returns-5
+returns_5 : tie.Need-returns-in-Broken
 returns_5 c =
-    let at-leaf-depth = c.before.before in
-    let at-if2 = at-leaf-depth.before.before in
-    let at-gather = at-if2.before in
-    let at-if1 = at-gather.before.before.before in
-    let at-atoms-of = at-if1.before in
-    let start = at-atoms-of.before.before in
-    let a = start.args in
+    let a = c.args in
     record {
       is = leaf_broken a.kinds.now a.operands.now a.starts.now a.kind (set_of a.scope.now)
-          a.bound.now a.depths.now a.at at-atoms-of.atoms_of.result at-atoms-of.atoms_of.ensures
-          (omega (arith, at-if1.if1.false)) at-gather.gather.result
-          at-gather.gather.new.1.1.1.1.1.1.0 at-gather.gather.ensures (not-false _ at-if2.if2.false)
-          at-leaf-depth.leaf_depth.result at-leaf-depth.leaf_depth.ensures c.enum_told.given.1
+          a.bound.now a.depths.now a.at c.atoms_of-n.result c.atoms_of-n.ensures
+          (omega (arith, c.if-n-gt16.false)) c.gather.result
+          c.gather.new.ds c.gather.ensures c.if-not-gather.false
+          c.leaf_depth.result c.leaf_depth.ensures c.in-Broken.is
           a.bound.now a.depths.now;
-      long = start.requires.3;
-      deep = start.requires.4;
+      long = c.requires.3;
+      deep = c.requires.4;
     }
 
 pub fit_leaf_spec : {M : Type 1} → statement M

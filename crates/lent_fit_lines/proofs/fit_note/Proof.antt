@@ -3,32 +3,27 @@ use Rattle.prelude.specs.Kit.{false, get_or, rules, ne_eqb, eq-eqb, not-true, no
 use Rattle.lent_fit_lines.proofs.fit_note.Statement.{statement}
 use Rattle.lent_fit_lines.proofs.fit_note.Tie as tie
 
-returns : tie.Need-returns
+returns : tie.Need-returns-then-not-scope-x
 returns c =
-    let at-first-at = c.before.before in
-    let x = at-first-at.first_at in
-    rw (← x.ensures, not-true (get_or at-first-at.before.args.scope.now x.result false) c.if1.true)
+    let x = c.first_at-x in
+    rw (← x.ensures, c.if-not-scope-x.true)
 
-returns_2 : tie.Need-returns-2
+returns_2 : tie.Need-returns-then-depths-x-eq0
 returns_2 c =
-    let at-if1 = c.before.before in
-    let at-first-at = at-if1.before.before in
-    let x = at-first-at.first_at in
+    let x = c.first_at-x in
     rw (
       ← x.ensures,
-      not-false (get_or at-first-at.before.args.scope.now x.result false) at-if1.if1.false,
-      eq-eqb _ 0 c.if2.true,
+      c.if-not-scope-x.false,
+      eq-eqb _ 0 c.if-depths-x-eq0.true,
     )
 
-returns_3 : tie.Need-returns-3
+returns_3 : tie.Need-returns
 returns_3 c =
-    let at-if1 = c.before.before in
-    let at-first-at = at-if1.before.before in
-    let x = at-first-at.first_at in
+    let x = c.first_at-x in
     rw (
       ← x.ensures,
-      not-false (get_or at-first-at.before.args.scope.now x.result false) at-if1.if1.false,
-      ne_eqb _ 0 c.if2.false,
+      c.if-not-scope-x.false,
+      ne_eqb _ 0 c.if-depths-x-eq0.false,
     )
 
 pub fit_note_spec : {M : Type 1} → statement M

@@ -5,37 +5,30 @@ use Rattle.lent_fit_lines.specs.Walk.{set_of}
 use Rattle.lent_fit_lines.proofs.fit_plain.Statement.{statement}
 use Rattle.lent_fit_lines.proofs.fit_plain.Tie as tie
 
-returns : tie.Need-returns
+returns : tie.Need-returns-then-binds
 returns c =
-    let at-if1 = c.before.before.before in
-    let at-binds = at-if1.before in
-    let start = at-binds.before.before in
-    let a = start.args in
+    let a = c.args in
     record {
       is = plain_leaf a.kinds.now a.operands.now a.starts.now a.kind (set_of a.scope.now)
-          a.bound.now a.depths.now a.at (sym at-binds.binds.ensures ∙ at-if1.if1.true)
-          ∙ c.fit-leaf.ensures.is;
-      long = c.fit-leaf.ensures.long;
-      deep = c.fit-leaf.ensures.deep;
+          a.bound.now a.depths.now a.at (sym c.binds.ensures ∙ c.if-binds.true)
+          ∙ c.fit_leaf.ensures.is;
+      long = c.fit_leaf.ensures.long;
+      deep = c.fit_leaf.ensures.deep;
     }
 
-fit_note_requires : tie.Need-fit-note-requires
+fit_note_requires : tie.Need-fit_note-requires
 fit_note_requires c κs =
-    let start = c.before.before.before.before in
-    omega (arith, start.requires.0.0, start.requires.1)
+    omega (arith, c.requires.0.0, c.requires.1)
 
-returns_2 : tie.Need-returns-2
+returns_2 : tie.Need-returns
 returns_2 c =
-    let at-if1 = c.before.before in
-    let at-binds = at-if1.before in
-    let start = at-binds.before.before in
-    let a = start.args in
+    let a = c.args in
     record {
       is = plain_note a.kinds.now a.operands.now a.starts.now a.kind (set_of a.scope.now)
-          a.bound.now a.depths.now a.at (sym at-binds.binds.ensures ∙ at-if1.if1.false)
-          c.fit-note.result c.fit-note.ensures;
-      long = start.requires.3;
-      deep = start.requires.4;
+          a.bound.now a.depths.now a.at (sym c.binds.ensures ∙ c.if-binds.false)
+          c.fit_note.result c.fit_note.ensures;
+      long = c.requires.3;
+      deep = c.requires.4;
     }
 
 pub fit_plain_spec : {M : Type 1} → statement M

@@ -4,7 +4,7 @@ use Rattle.lent_fit_lines.specs.Walk.{third_at}
 use Rattle.lent_fit_lines.proofs.third_at.Statement.{statement}
 use Rattle.lent_fit_lines.proofs.third_at.Tie as tie
 
-cast_result : tie.Need-overflow-cast-result
+cast_result : tie.Need-overflow_cast-result
 cast_result c = omega (arith, c.bits_at.ensures.1)
 
 returns : tie.Need-returns

@@ -3,8 +3,8 @@ use Rattle.prelude.specs.Kit.{rules}
 use Rattle.lent_fit_lines.proofs.usable.Statement.{statement}
 use Rattle.lent_fit_lines.proofs.usable.Tie as tie
 
-returns_2 : tie.Need-returns-2
-returns_2 c = rw c.before.before.a.given.1
+returns_2 : tie.Need-returns-in-Name
+returns_2 c = rw c.in-Name.is
 
 pub usable_spec : {M : Type 1} → statement M
 usable_spec =

@@ -86,7 +86,7 @@ load_elements_returns t c =
     let a = c.args in
     let l = c.loop-left in
     let r = c.load_value in
-    let from = place l.q l.now-free (store_of l.slots l.heads) in
+    let from = place l.q l.now_free (store_of l.slots l.heads) in
     runs_dry (load_at a.saved.now a.k a.depth) a.c (elements_at a.saved.now 0 a.p) l.left
     (place (a.p + 1) a.free (store_of a.slots.now a.heads.now)) from l.invariant.3
     c.loop-left-test.true
@@ -101,11 +101,11 @@ load_elements_loop_again t c =
     let r = c.load_value in
     let put = c.append in
     let load = load_at a.saved.now a.k a.depth in
-    let from = place l.q l.now-free (store_of l.slots l.heads) in
-    let to = store_of r.last.1.1.0 r.last.1.1.1.0 in (
+    let from = place l.q l.now_free (store_of l.slots l.heads) in
+    let to = store_of r.new.slots r.new.heads in (
       omega arith,
-      put.auto.0 ∙ r.kept.1.1.0 ∙ l.invariant.1,
-      put.auto.1.0 ∙ r.kept.1.1.1.0 ∙ l.invariant.2,
+      put.auto.slots ∙ r.auto.heads ∙ l.invariant.1,
+      put.auto.heads ∙ r.auto.heads ∙ l.invariant.2,
       goes_on load a.c (elements_at a.saved.now 0 a.p) l.left
           (place (a.p + 1) a.free (store_of a.slots.now a.heads.now)) from l.invariant.3
           c.loop-left-test.true c.in-Word.w (place c.in-Word.next c.in-Word.remain to)
@@ -125,7 +125,7 @@ load_elements_returns_2 t c =
     let l = c.loop-left in
     all_filled (load_at a.saved.now a.k a.depth) a.c (elements_at a.saved.now 0 a.p) l.left
     (place (a.p + 1) a.free (store_of a.slots.now a.heads.now))
-    (place l.q l.now-free (store_of l.slots l.heads)) l.invariant.3 (omega arith) (to_z w64 a.c)
+    (place l.q l.now_free (store_of l.slots l.heads)) l.invariant.3 (omega arith) (to_z w64 a.c)
     (to_z_pos w64 (omega (arith, c.requires.1)))
 
 -- ---- one value
@@ -166,7 +166,7 @@ load_value_returns_3 t c =
     let r = c.load_elements in
     goes_down a.saved.now a.k a.depth a.p a.free (store_of a.slots.now a.heads.now)
     c.if-k-p.false c.if-depth-eq0.false is.has c.in-Cell.c is.first c.in-Cell.left is.fewer
-    (store_of found.last.0 found.last.1.0) found.ensures.1 r.result
+    (store_of found.new.slots found.new.heads) found.ensures.1 r.result
     (store_of r.new.slots r.new.heads) r.ensures
 
 load_value_returns_4 : (t : ℕ) → load-value-lts.Need-returns-in-NoneFree (load_value_claims t) (load_value_at t) load_value.Post

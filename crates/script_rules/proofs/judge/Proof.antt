@@ -56,7 +56,7 @@ returns c =
       rw c.in-8.is at
           c.requires.1,
     ) in
-    call_says (signatures c.before.before.before.before.before) _ _ _ _
+    call_says (signatures c.before.before.before.before.before.before) _ _ _ _
     c.requires.0 c.in-8.is _
     (rw (get_d_any a.starts.now a.node.low 0 1024 in_table) at c.judge_call.ensures)
 
@@ -65,16 +65,16 @@ returns_2 c = literal_says (signatures c.before.before.before.before) _ _ _ _
     c.requires.0 c.in-9.is _ c.judge_all.ensures
 
 returns_3 : tie.Need-returns-in-10
-returns_3 c = index_says (signatures c.before.before.before.before.before.before) _ _ _ _
+returns_3 c = index_says (signatures c.before.before.before.before.before.before.before) _ _ _ _
     c.requires.0 c.in-10.is _
     c.judge_index.ensures
 
 returns_4 : tie.Need-returns-in-11
-returns_4 c = length_says (signatures c.before.before.before.before.before) _ _ _ _
+returns_4 c = length_says (signatures c.before.before.before.before.before.before) _ _ _ _
     c.requires.0 c.in-11.is _ c.judge_length.ensures
 
 returns_5 : tie.Need-returns-in-12
-returns_5 c = if_says (signatures c.before.before.before.before.before.before.before) _ _ _ _
+returns_5 c = if_says (signatures c.before.before.before.before.before.before.before.before) _ _ _ _
     c.requires.0
     c.in-12.is _ c.judge_if.ensures
 
@@ -83,7 +83,7 @@ returns_6 c = iota_says (signatures c.before.before.before.before) _ _ _ _
     c.requires.0 c.in-17.is _ c.judge_all-in-17.ensures
 
 returns_7 : tie.Need-returns-in-18
-returns_7 c = replicate_says (signatures c.before.before.before.before.before.before) _ _ _ _
+returns_7 c = replicate_says (signatures c.before.before.before.before.before.before.before) _ _ _ _
     c.requires.0 c.in-18.is _
     c.judge_replicate.ensures
 

@@ -3,9 +3,9 @@ use Rattle.prelude.specs.Kit.{rules}
 use Rattle.annotate_rows.proofs.uses.is_name.Statement.{statement}
 use Rattle.annotate_rows.proofs.uses.is_name.Tie as tie
 
-returns_2 : tie.Need-returns-2
+returns_2 : tie.Need-returns-in-Name
 returns_2 c =
-    rw c.before.a.given.1
+    rw c.in-Name.is
 
 pub is_name_spec : {M : Type 1} → statement M
 is_name_spec =

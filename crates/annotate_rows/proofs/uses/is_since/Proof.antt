@@ -5,7 +5,7 @@ use Rattle.annotate_rows.proofs.uses.is_since.Tie as tie
 
 returns : tie.Need-returns
 returns c =
-    ap (ltb c.before.before.args.row) c.wide.ensures
+    ap (ltb c.args.row) c.wide-v.ensures
 
 pub is_since_spec : {M : Type 1} → statement M
 is_since_spec =

@@ -5,26 +5,26 @@ use Rattle.annotate_rows.proofs.UsedPast.{Passing, passing_none, passing_more, p
 use Rattle.annotate_rows.proofs.uses.pass_names.Statement.{statement}
 use Rattle.annotate_rows.proofs.uses.pass_names.Tie as tie
 
-abbrev invariant_loop : tie.invariant_loop
+abbrev invariant_loop : tie.invariant-loop-i
 invariant_loop cur row x r₀ i₀ r i =
     (i ≤ x) × (x < 256) × (length r₀ ≡ 256) × Passing row (marks_of cur) r₀ r i
 
-abbrev decreases_loop : tie.decreases_loop
+abbrev decreases_loop : tie.decreases-loop-i
 decreases_loop cur row x r₀ i₀ r i = x - i
 
-loop_holds : tie.Need-loop-init invariant_loop decreases_loop
+loop_holds : tie.Need-loop-i-init invariant_loop decreases_loop
 loop_holds c =
     (omega arith, search rules, search rules, passing_none _ _ _)
 
-loop_again : tie.Need-loop-preserved invariant_loop decreases_loop
+loop_again : tie.Need-loop-i-preserved invariant_loop decreases_loop
 loop_again c =
-    let v = c.before.before.before.loop.invariant in
-    (omega arith, v.1, v.2, passing_more v.3 (omega arith) c.either.ensures c.before.is-since.ensures)
+    let v = c.loop-i.invariant in
+    (omega arith, v.1, v.2, passing_more v.3 (omega arith) c.either.ensures c.is_since-s.ensures)
 
 returns : tie.Need-returns invariant_loop decreases_loop
 returns c =
-    let v = c.before.loop.invariant in passing_all v.3 c.before.before.before.args.x _ c.loop-test.false
-    v.0 c.before.before.without.ensures
+    let v = c.loop-i.invariant in passing_all v.3 c.args.x _ c.loop-i-test.false
+    v.0 c.without-r.ensures
 
 pub pass_names_spec : {M : Type 1} → statement M
 pass_names_spec =

@@ -12,18 +12,18 @@ use Rattle.annotate_rows.proofs.UsedPast.{used_is}
 use Rattle.annotate_rows.proofs.uses.put_used.Statement.{statement}
 use Rattle.annotate_rows.proofs.uses.put_used.Tie as tie
 
-abbrev invariant_loop : tie.invariant_loop
+abbrev invariant_loop : tie.invariant-loop-i
 invariant_loop ks₀ os₀ depths cur row n a live w at₀ i₀ ks os at i =
     (i ≤ n) × (n ≤ 256) × Room ks os at
     × Wrote ks₀ os₀ ks os w at
     (releases_from (depth_in depths) (below n (is (meant a) ∪ since row (marks_of cur))) (set_of live) i)
 
-abbrev decreases_loop : tie.decreases_loop
+abbrev decreases_loop : tie.decreases-loop-i
 decreases_loop ks₀ os₀ depths cur row n a live w at₀ i₀ ks os at i = i
 
-loop_holds : tie.Need-loop-init invariant_loop decreases_loop
+loop_holds : tie.Need-loop-i-init invariant_loop decreases_loop
 loop_holds c =
-    let a = c.before.args in (
+    let a = c.args in (
       omega arith,
       omega arith,
       search rules,
@@ -31,15 +31,15 @@ loop_holds c =
           a.row (marks_of a.cur.now)) (set_of a.live.now) a.n,
     )
 
-loop_again : tie.Need-loop-preserved invariant_loop decreases_loop
+loop_again : tie.Need-loop-i-preserved invariant_loop decreases_loop
 loop_again c =
-    let at-release-one = c.before.before.before.release-one in
-    let at-either = c.before.before.before.before.before.before.before.either in
-    let at-is-name = c.before.before.before.before.before.before.before.before.is_name in
-    let at-is-since = c.before.before.before.before.before.before.before.before.before.is-since in
-    let at-loop-test = c.before.before.before.before.before.before.before.before.before.before.loop-test in
-    let at-loop = c.before.before.before.before.before.before.before.before.before.before.before.loop in
-    let a = c.before.before.before.before.before.before.before.before.before.before.before.before.before.args in
+    let at-release-one = c.release_one-v in
+    let at-either = c.either-u in
+    let at-is-name = c.is_name-t in
+    let at-is-since = c.is_since-s in
+    let at-loop-test = c.loop-i-test in
+    let at-loop = c.loop-i in
+    let a = c.args in
     let v = at-loop.invariant in (
       omega arith,
       v.1,
@@ -51,8 +51,8 @@ loop_again c =
 
 returns : tie.Need-returns invariant_loop decreases_loop
 returns c =
-    let a = c.before.before.before.args in
-    release_all (depth_in a.depths.now) (below a.n (is (meant a.a) ∪ since a.row (marks_of a.cur.now))) (set_of a.live.now) c.loop-test.false c.before.loop.invariant.3
+    let a = c.args in
+    release_all (depth_in a.depths.now) (below a.n (is (meant a.a) ∪ since a.row (marks_of a.cur.now))) (set_of a.live.now) c.loop-i-test.false c.loop-i.invariant.3
 
 pub put_used_spec : {M : Type 1} → statement M
 put_used_spec =

@@ -18,33 +18,31 @@ module _ (t : ℕ) where
 
   -- the first part is laid, and it is known where the second begins
   abbrev Aimed : Type 0
-  Aimed = lts.After-spot-at (lay_let_claims t) (lay_let_at t) lay-let.Post
+  Aimed = lts.After-spot_at-second (lay_let_claims t) (lay_let_at t) lay-let.Post
 
   abbrev start_of : Aimed → Start
   start_of c = c.before.before.before.before.before.before.before.before.before.before
 
   -- the second part is laid
   abbrev Laid : Type 0
-  Laid = lts.After-lay-part2 (lay_let_claims t) (lay_let_at t) lay-let.Post
+  Laid = lts.After-lay_part-r (lay_let_claims t) (lay_let_at t) lay-let.Post
 
   abbrev aim_of : Laid → Aimed
   aim_of c = c.before.before.before.before.before.before
 
-  pub lay_let_lay_part_requires : lts.Need-lay-part-requires (lay_let_claims t) (lay_let_at t) lay-let.Post
+  pub lay_let_lay_part_requires : lts.Need-lay_part-first-requires (lay_let_claims t) (lay_let_at t) lay-let.Post
   lay_let_lay_part_requires c κs =
-      let s = c.before.before.before.before.before.before.before in
-      let a = s.args in (
+      let s = c.before.before.before.before.before.before.before in let a = s.args in (
         omega (arith, s.requires.0),
         (s.requires.1.0, let_first a.operands.now _ (tree s) a.x a.places.now s.requires.1.1),
       )
 
-  pub lay_let_lay_part_requires_2 : lts.Need-lay-part-requires-2 (lay_let_claims t) (lay_let_at t) lay-let.Post
+  pub lay_let_lay_part_requires_2 : lts.Need-lay_part-r-requires (lay_let_claims t) (lay_let_at t) lay-let.Post
   lay_let_lay_part_requires_2 c κs =
-      let aim = c.before.before.before.before.before in
-      let first = aim.before.before.lay-part.ensures in
+      let aim = c.before.before.before.before.before in let first = aim.lay_part-first.ensures in
       let s = start_of aim in
       let a = s.args in
-      rw aim.spot-at.ensures (
+      rw aim.spot_at-second.ensures (
         omega (arith, s.pre.0),
         (
           given_bound _ a.x _ (given_same _ s.pre.1.0 first.1) refl,
@@ -53,20 +51,20 @@ module _ (t : ℕ) where
         ),
       )
 
-  pub lay_let_mul_places_2 : lts.Need-overflow-mul-places-2 (lay_let_claims t) (lay_let_at t) lay-let.Post
+  pub lay_let_mul_places_2 : lts.Need-offset_bounds-places-i-3 (lay_let_claims t) (lay_let_at t) lay-let.Post
   lay_let_mul_places_2 c = omega (arith, (start_of (aim_of c)).fits.x)
 
-  pub lay_let_element_write_places_2 : lts.Need-element-write-places-2 (lay_let_claims t) (lay_let_at t) lay-let.Post
+  pub lay_let_element_write_places_2 : lts.Need-bounds-places-i-3 (lay_let_claims t) (lay_let_at t) lay-let.Post
   lay_let_element_write_places_2 c = omega (arith, (start_of (aim_of c)).fits.x)
 
   pub lay_let_returns : lts.Need-returns (lay_let_claims t) (lay_let_at t) lay-let.Post
   lay_let_returns c =
       let aim = aim_of c in
-      let first = aim.before.before.lay-part.ensures in
+      let first = aim.lay_part-first.ensures in
       let s = start_of aim in
       let a = s.args in (
         let_laid _ _ (tree s) a.x a.places.now s.pre.1.1 _ s.pre.1.0.long
             (omega (arith, s.fits.x)) first.1 first.0
-            (rw aim.spot-at.ensures at c.lay-part2.ensures.0),
-        put_back 0 _ _ _ _ _ first.1 c.lay-part2.ensures.1,
+            (rw aim.spot-at.ensures at c.lay_part-r.ensures.0),
+        put_back 0 _ _ _ _ _ first.1 c.lay_part-r.ensures.1,
       )

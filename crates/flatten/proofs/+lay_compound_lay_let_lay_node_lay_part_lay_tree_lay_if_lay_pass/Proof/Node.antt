@@ -41,44 +41,43 @@ module _ (t : ℕ) where
         let seen = fits_seen s.pre.1.0 in
         compound_is _ _ _ _ s.pre.1.0.deep seen (compound_as seen n)
 
-  -- in the arms of a let, an if and all others
-  abbrev let_arm : lts.After-spot-at (lay_node_claims t) (lay_node_at t) lay-node.Post →
-      lts.At-match-keys3 (lay_node_claims t) (lay_node_at t) lay-node.Post
+      -- in the arms of a let, an if and all others
+  abbrev let_arm : lts.After-spot_at (lay_node_claims t) (lay_node_at t) lay-node.Post →
+      lts.In-7 (lay_node_claims t) (lay_node_at t) lay-node.Post
   let_arm c = c.before.before.before.before.before.before.before
 
-  abbrev if_arm : lts.After-spot-at2 (lay_node_claims t) (lay_node_at t) lay-node.Post →
-      lts.At-match-keys4 (lay_node_claims t) (lay_node_at t) lay-node.Post
+  abbrev if_arm : lts.After-spot_at-in-12 (lay_node_claims t) (lay_node_at t) lay-node.Post →
+      lts.In-12 (lay_node_claims t) (lay_node_at t) lay-node.Post
   if_arm c = c.before.before.before.before.before.before.before
 
-  abbrev other_arm : lts.After-lay-compound-arg5 (lay_node_claims t) (lay_node_at t) lay-node.Post →
-      lts.At-match-rest (lay_node_claims t) (lay_node_at t) lay-node.Post
+  abbrev other_arm : lts.After-lay_compound-arg-in_default-4-1 (lay_node_claims t) (lay_node_at t) lay-node.Post →
+      lts.In_default (lay_node_claims t) (lay_node_at t) lay-node.Post
   other_arm c = c.before.before.before.before.before
 
-  pub lay_node_add_atom_out : lts.Need-overflow-add-atom-out (lay_node_claims t) (lay_node_at t) lay-node.Post
+  pub lay_node_add_atom_out : lts.Need-overflow_add-spot (lay_node_claims t) (lay_node_at t) lay-node.Post
   lay_node_add_atom_out c = omega (arith, inside c.before.before.before.before)
 
-  pub lay_node_cast_atom_out : lts.Need-overflow-cast-atom-out (lay_node_claims t) (lay_node_at t) lay-node.Post
+  pub lay_node_cast_atom_out : lts.Need-overflow_cast-spot (lay_node_claims t) (lay_node_at t) lay-node.Post
   lay_node_cast_atom_out c = omega (arith, inside c.before.before.before.before)
 
-  pub lay_node_atom_out_requires : lts.Need-atom-out-requires (lay_node_claims t) (lay_node_at t) lay-node.Post
+  pub lay_node_atom_out_requires : lts.Need-atom_out-requires (lay_node_claims t) (lay_node_at t) lay-node.Post
   lay_node_atom_out_requires c κs = inside c.before.before.before.before
 
-  pub lay_node_atom_out_requires_2 : lts.Need-atom-out-requires-2 (lay_node_claims t) (lay_node_at t) lay-node.Post
+  pub lay_node_atom_out_requires_2 : lts.Need-atom_out-requires-in-3 (lay_node_claims t) (lay_node_at t) lay-node.Post
   lay_node_atom_out_requires_2 c κs = inside c.before.before.before.before
 
-  pub lay_node_add_spot_at : lts.Need-overflow-add-spot-at (lay_node_claims t) (lay_node_at t) lay-node.Post
+  pub lay_node_add_spot_at : lts.Need-overflow_add-spot-in-7 (lay_node_claims t) (lay_node_at t) lay-node.Post
   lay_node_add_spot_at c =
-      let s = c.before.before.before.before.before.before.before.before.before in
-      omega (arith, inside s)
+      let s = c.before.before.before.before.before.before.before.before.before in omega (arith, inside s)
 
-  pub lay_node_sub_lay_let : lts.Need-overflow-sub-lay-let (lay_node_claims t) (lay_node_at t) lay-node.Post
+  pub lay_node_sub_lay_let : lts.Need-overflow_sub-levels (lay_node_claims t) (lay_node_at t) lay-node.Post
   lay_node_sub_lay_let c = omega (arith, (let_arm c).before.before.before.requires.1.0.deep)
 
-  pub lay_node_lay_let_requires : lts.Need-lay-let-requires (lay_node_claims t) (lay_node_at t) lay-node.Post
+  pub lay_node_lay_let_requires : lts.Need-lay_let-requires (lay_node_claims t) (lay_node_at t) lay-node.Post
   lay_node_lay_let_requires c κs =
       let s = (let_arm c).before.before.before in
       let node = s.args.spot.node in
-      rw c.spot-at.ensures (
+      rw c.spot_at.ensures (
         omega (arith, s.pre.0, s.pre.1.0.deep),
         (
           s.pre.1.1.0,
@@ -86,19 +85,18 @@ module _ (t : ℕ) where
         ),
       )
 
-  pub lay_node_add_spot_at_2 : lts.Need-overflow-add-spot-at-2 (lay_node_claims t) (lay_node_at t) lay-node.Post
+  pub lay_node_add_spot_at_2 : lts.Need-overflow_add-spot-in-12 (lay_node_claims t) (lay_node_at t) lay-node.Post
   lay_node_add_spot_at_2 c =
-      let s = c.before.before.before.before.before.before.before.before.before in
-      omega (arith, inside s)
+      let s = c.before.before.before.before.before.before.before.before.before in omega (arith, inside s)
 
-  pub lay_node_sub_lay_if : lts.Need-overflow-sub-lay-if (lay_node_claims t) (lay_node_at t) lay-node.Post
+  pub lay_node_sub_lay_if : lts.Need-overflow_sub-levels-in-12 (lay_node_claims t) (lay_node_at t) lay-node.Post
   lay_node_sub_lay_if c = omega (arith, (if_arm c).before.before.before.requires.1.0.deep)
 
-  pub lay_node_lay_if_requires : lts.Need-lay-if-requires (lay_node_claims t) (lay_node_at t) lay-node.Post
+  pub lay_node_lay_if_requires : lts.Need-lay_if-requires (lay_node_claims t) (lay_node_at t) lay-node.Post
   lay_node_lay_if_requires c κs =
       let s = (if_arm c).before.before.before in
       let node = s.args.spot.node in
-      rw c.spot-at2.ensures (
+      rw c.spot_at-in-12.ensures (
         omega (arith, s.pre.0, s.pre.1.0.deep),
         (
           s.pre.1.1.0,
@@ -106,11 +104,11 @@ module _ (t : ℕ) where
         ),
       )
 
-  pub lay_node_sub_lay_compound : lts.Need-overflow-sub-lay-compound (lay_node_claims t) (lay_node_at t) lay-node.Post
+  pub lay_node_sub_lay_compound : lts.Need-overflow_sub-levels-in_default (lay_node_claims t) (lay_node_at t) lay-node.Post
   lay_node_sub_lay_compound c = omega (arith, (other_arm c).before.before.before.requires.1.0.deep)
 
   pub lay_node_lay_compound_requires :
-      lts.Need-lay-compound-requires (lay_node_claims t) (lay_node_at t) lay-node.Post
+      lts.Need-lay_compound-requires (lay_node_claims t) (lay_node_at t) lay-node.Post
   lay_node_lay_compound_requires c κs =
       let s = (other_arm c).before.before.before in
       let none = (other_arm c).match.rest in (
@@ -121,59 +119,55 @@ module _ (t : ℕ) where
         ),
       )
 
-  pub lay_node_returns : lts.Need-returns (lay_node_claims t) (lay_node_at t) lay-node.Post
+  pub lay_node_returns : lts.Need-returns-in-2 (lay_node_claims t) (lay_node_at t) lay-node.Post
   lay_node_returns c =
-      let s = c.before.before.before.before.before in
-      let a = s.args in
+      let a = c.args in
       let node = a.spot.node in
-      let number = c.before.before.match.keys1 in
-      let seen = fits_seen s.requires.1.0 in (
-        rw c.atom-out.ensures (number_laid _ _ a.levels node _ _
-            (number_is _ _ _ _ s.requires.1.0.deep seen number)
-            (number_placed a.kinds.now a.operands.now node seen.node s.requires.1.1.0.parts
+      let number = c.in-2.is in
+      let seen = fits_seen c.requires.1.0 in (
+        rw c.atom_out.ensures (number_laid _ _ a.levels node _ _
+            (number_is _ _ _ _ c.requires.1.0.deep seen number)
+            (number_placed a.kinds.now a.operands.now node seen.node c.requires.1.1.0.parts
             (node_inside a.kinds.now a.operands.now at_part node seen.node seen.stands) seen.stands
-            (seen.same_kind ∙ number)) s.requires.1.1.1.sized),
+            (seen.same_kind ∙ number)) c.requires.1.1.1.sized),
         refl,
       )
 
-  pub lay_node_returns_2 : lts.Need-returns-2 (lay_node_claims t) (lay_node_at t) lay-node.Post
+  pub lay_node_returns_2 : lts.Need-returns-in-3 (lay_node_claims t) (lay_node_at t) lay-node.Post
   lay_node_returns_2 c =
-      let s = c.before.before.before.before.before in
-      let a = s.args in
-      let seen = fits_seen s.requires.1.0 in (
-        rw c.atom-out2.ensures (name_laid a.operands.now _ a.places.now a.levels a.spot.node _
-            a.shape.low (name_is _ _ _ _ s.requires.1.0.deep seen c.before.before.match.keys2)
-            (any_default a.places.now a.shape.low s.requires.1.1.0.long
-            s.well-formed.1.1.1.1.1.1.1.1.0.1.1.1.0.1)
-            s.requires.1.1.1.sized),
+      let a = c.args in
+      let seen = fits_seen c.requires.1.0 in (
+        rw c.atom_out-in-3.ensures (name_laid a.operands.now _ a.places.now a.levels a.spot.node _
+            a.shape.low (name_is _ _ _ _ c.requires.1.0.deep seen c.in-3.is)
+            (any_default a.places.now a.shape.low c.requires.1.1.0.long
+            c.before.before.before.before.before.well_formed.1.1.1.1.1.1.1.1.0.1.1.1.0.1)
+            c.requires.1.1.1.sized),
         refl,
       )
 
-  pub lay_node_returns_3 : lts.Need-returns-3 (lay_node_claims t) (lay_node_at t) lay-node.Post
+  pub lay_node_returns_3 : lts.Need-returns-in-7 (lay_node_claims t) (lay_node_at t) lay-node.Post
   lay_node_returns_3 c =
       let arm = let_arm c.before in
-      let s = arm.before.before.before in
-      let node = s.args.spot.node in (
+      let s = arm.before.before.before in let node = s.args.spot.node in (
         ready_made _ _ s.args.levels node (is_let s arm.match.keys3) (omega (arith, s.pre.1.0.deep))
-            (let_after _ node _ _) (rw c.before.spot-at.ensures at c.lay-let.ensures.0),
-        c.lay-let.ensures.1,
+            (let_after _ node _ _) (rw c.spot_at.ensures at c.lay_let.ensures.0),
+        c.lay_let.ensures.1,
       )
 
-  pub lay_node_returns_4 : lts.Need-returns-4 (lay_node_claims t) (lay_node_at t) lay-node.Post
+  pub lay_node_returns_4 : lts.Need-returns-in-12 (lay_node_claims t) (lay_node_at t) lay-node.Post
   lay_node_returns_4 c =
       let arm = if_arm c.before in
-      let s = arm.before.before.before in
-      let node = s.args.spot.node in (
+      let s = arm.before.before.before in let node = s.args.spot.node in (
         ready_made _ _ s.args.levels node (is_if s arm.match.keys4) (omega (arith, s.pre.1.0.deep))
-            (if_after node _ _ _) (rw c.before.spot-at2.ensures at c.lay-if.ensures.0),
-        c.lay-if.ensures.1,
+            (if_after node _ _ _) (rw c.spot_at-in-12.ensures at c.lay_if.ensures.0),
+        c.lay_if.ensures.1,
       )
 
-  pub lay_node_returns_5 : lts.Need-returns-5 (lay_node_claims t) (lay_node_at t) lay-node.Post
+  pub lay_node_returns_5 : lts.Need-returns-in_default (lay_node_claims t) (lay_node_at t) lay-node.Post
   lay_node_returns_5 c =
       let arm = other_arm c.before in
       let s = arm.before.before.before in (
         ready_made _ _ s.args.levels s.args.spot.node (is_compound s arm.match.rest)
-            (omega (arith, s.pre.1.0.deep)) refl c.lay-compound.ensures.0,
-        c.lay-compound.ensures.1,
+            (omega (arith, s.pre.1.0.deep)) refl c.lay_compound.ensures.0,
+        c.lay_compound.ensures.1,
       )

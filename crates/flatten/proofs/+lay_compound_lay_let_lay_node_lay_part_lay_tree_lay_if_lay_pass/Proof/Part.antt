@@ -23,68 +23,63 @@ module _ (t : ℕ) where
 
   -- a node is looked for
   abbrev Looked : Type 0
-  Looked = lts.After-node-at (lay_part_claims t) (lay_part_at t) lay-part.Post
+  Looked = lts.After-node_at (lay_part_claims t) (lay_part_at t) lay-part.Post
 
   abbrev start_of : Looked → Start
   start_of c = c.before.before.before.before
 
-  pub lay_part_atom_out_requires : lts.Need-atom-out-requires (lay_part_claims t) (lay_part_at t) lay-part.Post
+  pub lay_part_atom_out_requires : lts.Need-atom_out-requires (lay_part_claims t) (lay_part_at t) lay-part.Post
   lay_part_atom_out_requires c κs = node_inside c.before.before.before
 
-  pub lay_part_returns : lts.Need-returns (lay_part_claims t) (lay_part_at t) lay-part.Post
+  pub lay_part_returns : lts.Need-returns-then-levels-eq0 (lay_part_claims t) (lay_part_at t) lay-part.Post
   lay_part_returns c =
-      let s = c.before.before.before.before in
-      let a = s.args in (
-        rw c.atom-out.ensures (number_laid _ _ a.levels a.spot.node 65535 (pos 0)
-            (none_tree a.kinds.now a.operands.now a.levels a.spot.node c.before.if1.true)
+      let s = c.before.before.before.before in let a = s.args in (
+        rw c.atom_out.ensures (number_laid _ _ a.levels a.spot.node 65535 (pos 0)
+            (none_tree a.kinds.now a.operands.now a.levels a.spot.node c.if-levels-eq0.true)
             (nowhere_placed a.operands.now (file_fits s)) s.requires.1.1.sized),
         refl,
       )
 
-  pub lay_part_lay_node_requires : lts.Need-lay-node-requires (lay_part_claims t) (lay_part_at t) lay-part.Post
+  pub lay_part_lay_node_requires : lts.Need-lay_node-requires (lay_part_claims t) (lay_part_at t) lay-part.Post
   lay_part_lay_node_requires c κs =
-      let fitting = c.before.before.before.before.before.before in
-      let looked = fitting.before.before in
-      let s = start_of looked in (
+      let looked = c.before.before.before.before.before.before in let s = start_of looked in (
         omega (arith, s.pre.0),
         (
           record {
-            deep = looked.before.if1.false;
-            stands = rw fitting.kind.given.1 at looked.node_at.ensures;
+            deep = looked.if-levels-eq0.false;
+            stands = rw c.in-Fits.is at looked.node_at.ensures;
           },
           s.pre.1,
         ),
       )
 
-  pub lay_part_atom_out_requires_2 : lts.Need-atom-out-requires-2 (lay_part_claims t) (lay_part_at t) lay-part.Post
-  lay_part_atom_out_requires_2 c κs = node_inside (start_of c.before.before)
+  pub lay_part_atom_out_requires_2 : lts.Need-atom_out-requires-in-WrongKind (lay_part_claims t) (lay_part_at t) lay-part.Post
+  lay_part_atom_out_requires_2 c κs = node_inside (start_of c.before)
 
-  pub lay_part_atom_out_requires_3 : lts.Need-atom-out-requires-3 (lay_part_claims t) (lay_part_at t) lay-part.Post
-  lay_part_atom_out_requires_3 c κs = node_inside (start_of c.before.before)
+  pub lay_part_atom_out_requires_3 : lts.Need-atom_out-requires-in-WrongOperand (lay_part_claims t) (lay_part_at t) lay-part.Post
+  lay_part_atom_out_requires_3 c κs = node_inside (start_of c.before)
 
-  pub lay_part_returns_2 : lts.Need-returns-2 (lay_part_claims t) (lay_part_at t) lay-part.Post
-  lay_part_returns_2 c = c.lay-node.ensures
+  pub lay_part_returns_2 : lts.Need-returns-in-Fits (lay_part_claims t) (lay_part_at t) lay-part.Post
+  lay_part_returns_2 c = c.lay_node.ensures
 
-  pub lay_part_returns_3 : lts.Need-returns-3 (lay_part_claims t) (lay_part_at t) lay-part.Post
+  pub lay_part_returns_3 : lts.Need-returns-in-WrongKind (lay_part_claims t) (lay_part_at t) lay-part.Post
   lay_part_returns_3 c =
-      let looked = c.before.before.before in
-      let s = start_of looked in
+      let looked = c.before.before in let s = start_of looked in
       let a = s.args in (
-        rw c.atom-out2.ensures (number_laid _ _ a.levels a.spot.node 65535 (pos 0)
-            (wrong_tree a.kinds.now a.operands.now a.levels a.spot.node looked.before.if1.false
-            looked.node_at.result looked.node_at.ensures (inl c.before.enum_told.given.1))
+        rw c.atom_out-in-WrongKind.ensures (number_laid _ _ a.levels a.spot.node 65535 (pos 0)
+            (wrong_tree a.kinds.now a.operands.now a.levels a.spot.node looked.if-levels-eq0.false
+            looked.node_at.result looked.node_at.ensures (inl c.in-WrongKind.is))
             (nowhere_placed a.operands.now (file_fits s)) s.pre.1.1.sized),
         refl,
       )
 
-  pub lay_part_returns_4 : lts.Need-returns-4 (lay_part_claims t) (lay_part_at t) lay-part.Post
+  pub lay_part_returns_4 : lts.Need-returns-in-WrongOperand (lay_part_claims t) (lay_part_at t) lay-part.Post
   lay_part_returns_4 c =
-      let looked = c.before.before.before in
-      let s = start_of looked in
+      let looked = c.before.before in let s = start_of looked in
       let a = s.args in (
-        rw c.atom-out3.ensures (number_laid _ _ a.levels a.spot.node 65535 (pos 0)
-            (wrong_tree a.kinds.now a.operands.now a.levels a.spot.node looked.before.if1.false
-            looked.node_at.result looked.node_at.ensures (inr c.before.enum-told2.given.1))
+        rw c.atom_out-in-WrongOperand.ensures (number_laid _ _ a.levels a.spot.node 65535 (pos 0)
+            (wrong_tree a.kinds.now a.operands.now a.levels a.spot.node looked.if-levels-eq0.false
+            looked.node_at.result looked.node_at.ensures (inr c.in-WrongOperand.is))
             (nowhere_placed a.operands.now (file_fits s)) s.pre.1.1.sized),
         refl,
       )

@@ -10,29 +10,26 @@ use Rattle.flatten.proofs.+lay_compound_lay_let_lay_node_lay_part_lay_tree_lay_i
 module _ (t : ℕ) where
   -- the lines are laid
   abbrev Laid : Type 0
-  Laid = lts.After-lay-part (lay_tree_claims t) (lay_tree_at t) lay-tree.Post
+  Laid = lts.After-lay_part-r (lay_tree_claims t) (lay_tree_at t) lay-tree.Post
 
-  room : (c : Laid) → c.lay-part.result.p ≤ 2040
+  room : (c : Laid) → c.lay_part-r.result.p ≤ 2040
   room c =
-      let s = c.before.before.before.before.before.before.before.before in
-      omega (arith, c.lay-part.ensures.0.reach, s.requires.1.1.rows)
+      omega (arith, c.lay_part-r.ensures.0.reach, c.requires.1.1.rows)
 
-  pub lay_tree_lay_part_requires : lts.Need-lay-part-requires (lay_tree_claims t) (lay_tree_at t) lay-tree.Post
+  pub lay_tree_lay_part_requires : lts.Need-lay_part-r-requires (lay_tree_claims t) (lay_tree_at t) lay-tree.Post
   lay_tree_lay_part_requires c κs =
-      let s = c.before.before.before.before.before.before.before in
-      (omega (arith, s.requires.0), s.requires.1)
+      (omega (arith, c.requires.0), c.requires.1)
 
-  pub lay_tree_lay_head_requires : lts.Need-lay-head-requires (lay_tree_claims t) (lay_tree_at t) lay-tree.Post
+  pub lay_tree_lay_head_requires : lts.Need-lay_head-requires (lay_tree_claims t) (lay_tree_at t) lay-tree.Post
   lay_tree_lay_head_requires c κs = omega (arith, room c.before.before.before)
 
-  pub lay_tree_add_t22 : lts.Need-overflow-add-t22 (lay_tree_claims t) (lay_tree_at t) lay-tree.Post
+  pub lay_tree_add_t22 : lts.Need-overflow_add-result (lay_tree_claims t) (lay_tree_at t) lay-tree.Post
   lay_tree_add_t22 c = omega (arith, room c.before.before.before.before.before)
 
   pub lay_tree_returns : lts.Need-returns (lay_tree_claims t) (lay_tree_at t) lay-tree.Post
   lay_tree_returns c =
-      let laid = c.before.before.before.before.before in
-      let a = laid.before.before.before.before.before.before.before.before.args in (
-        tree_laid _ _ (tree_at a.kinds.now a.operands.now a.levels) laid.lay-part.ensures.0
-            c.before.lay-head.ensures (room laid),
-        laid.lay-part.ensures.1,
+      let laid = c.before.before.before.before.before in let a = laid.args in (
+        tree_laid _ _ (tree_at a.kinds.now a.operands.now a.levels) laid.lay_part-r.ensures.0
+            c.lay_head.ensures (room laid),
+        laid.lay_part-r.ensures.1,
       )

@@ -5,11 +5,11 @@ use Rattle.flatten.proofs.parts.lay_leaf.Tie as tie
 
 returns : tie.Need-returns
 returns c =
-    let second = c.before.before.before.before.before.before.before.second_part.ensures in
-    let parts = c.before.before.before.before.before.before.parts_of.ensures in
-    let laid = c.lay-line.ensures in (
+    let second = c.second_part-second.ensures in
+    let parts = c.parts_of-third.ensures in
+    let laid = c.lay_line-end.ensures in (
       (rw (laid.0.0, parts), rw parts at laid.0.1),
-      (rw (second, parts) at laid.1, rw (c.before.before.before.before.depth-of-line.ensures, second)),
+      (rw (second, parts) at laid.1, rw (c.depth_of_line.ensures, second)),
     )
 
 pub lay_leaf_spec : {M : Type 1} → statement M

@@ -3,11 +3,11 @@ use Rattle.prelude.specs.Kit.{◌∙◌, sym, rules}
 use Rattle.flatten.proofs.parts.parts_before.Statement.{statement}
 use Rattle.flatten.proofs.parts.parts_before.Tie as tie
 
-returns : tie.Need-returns
-returns c = rw (sym c.before.before.is_loop.ensures ∙ c.before.if1.true) c.loop_size.ensures
+returns : tie.Need-returns-then-is_loop
+returns c = rw (sym c.is_loop.ensures ∙ c.if-is_loop.true) c.loop_size.ensures
 
-returns_2 : tie.Need-returns-2
-returns_2 c = rw (sym c.before.before.is_loop.ensures ∙ c.before.if1.false) c.parts_of.ensures
+returns_2 : tie.Need-returns
+returns_2 c = rw (sym c.is_loop.ensures ∙ c.if-is_loop.false) c.parts_of.ensures
 
 pub parts_before_spec : {M : Type 1} → statement M
 parts_before_spec =

@@ -3,18 +3,18 @@ use Rattle.prelude.specs.Kit.{ne_eqb}
 use Rattle.lent_fit_lines.proofs.opening.goes_over.Statement.{statement}
 use Rattle.lent_fit_lines.proofs.opening.goes_over.Tie as tie
 
-returns : tie.Need-returns
-returns c = rw c.match.keys1
+returns : tie.Need-returns-in-21
+returns c = rw c.in-21.is
 
-returns_2 : tie.Need-returns-2
-returns_2 c = rw c.match.keys2
+returns_2 : tie.Need-returns-in-19
+returns_2 c = rw c.in-19.is
 
-returns_3 : tie.Need-returns-3
-returns_3 c = rw c.match.keys3
+returns_3 : tie.Need-returns-in-20
+returns_3 c = rw c.in-20.is
 
-returns_4 : tie.Need-returns-4
+returns_4 : tie.Need-returns-in_default
 returns_4 c =
-    let r = c.match.rest in
+    let r = c.in_default.in_default-own.rest in
     rw (ne_eqb _ 21 r.0.0.1, ne_eqb _ 19 r.0.1, ne_eqb _ 20 r.1)
 
 pub goes_over_spec : {M : Type 1} → statement M

@@ -3,19 +3,19 @@ use Rattle.prelude.specs.Kit.{rules, ne_eqb}
 use Rattle.lent_fit_lines.proofs.opening.loop_depth.Statement.{statement}
 use Rattle.lent_fit_lines.proofs.opening.loop_depth.Tie as tie
 
-returns : tie.Need-returns
-returns c = rw c.before.match.keys1 c.rewrite-depth.ensures
+returns : tie.Need-returns-in-21
+returns c = rw c.in-21.is c.rewrite_depth.ensures
 
-returns_2 : tie.Need-returns-2
-returns_2 c = rw c.before.match.keys2 c.judge-loop.ensures
+returns_2 : tie.Need-returns-in-19
+returns_2 c = rw c.in-19.is c.judge_loop.ensures
 
-returns_3 : tie.Need-returns-3
-returns_3 c = rw c.before.match.keys3 c.judge-loop2.ensures
+returns_3 : tie.Need-returns-in-20
+returns_3 c = rw c.in-20.is c.judge_loop-in-20.ensures
 
-returns_4 : tie.Need-returns-4
+returns_4 : tie.Need-returns-in_default
 returns_4 c =
-    let r = c.before.match.rest in
-    rw (ne_eqb _ 21 r.0.0.1, ne_eqb _ 19 r.0.1, ne_eqb _ 20 r.1) c.judge-array.ensures
+    let r = c.in_default.in_default-own.rest in
+    rw (ne_eqb _ 21 r.0.0.1, ne_eqb _ 19 r.0.1, ne_eqb _ 20 r.1) c.judge_array.ensures
 
 pub loop_depth_spec : {M : Type 1} → statement M
 loop_depth_spec =

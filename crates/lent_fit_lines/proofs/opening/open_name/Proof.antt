@@ -6,12 +6,11 @@ use Rattle.lent_fit_lines.proofs.opening.open_name.Tie as tie
 
 returns : tie.Need-returns
 returns c =
-    let start = c.before.before.before in
-    let a = start.args in
+    let a = c.args in
     record {
-      opened = c.bind-new.ensures;
-      scope = λ z. set_just a.scope.now a.x (omega (arith, start.requires.2));
-      wide = simp length-set start.requires.2;
+      opened = c.bind_new.ensures;
+      scope = λ z. set_just a.scope.now a.x (omega (arith, c.requires.2));
+      wide = simp length-set c.requires.2;
     }
 
 pub open_name_spec : {M : Type 1} → statement M

@@ -6,46 +6,46 @@ use Rattle.machine_lines.proofs.Appending.{appended_full}
 use Rattle.machine_lines.proofs.arrays.append_atoms.Statement.{statement}
 use Rattle.machine_lines.proofs.arrays.append_atoms.Tie as tie
 
-abbrev invariant_loop : tie.invariant_loop
+abbrev invariant_loop : tie.invariant-loop-n
 invariant_loop kinds operands slots₀ heads₀ env calls c at n₀ slots heads n =
     (length slots ≡ length slots₀) × (length heads ≡ length heads₀)
     × Appending kinds operands calls at env c (store_of slots₀ heads₀) (store_of slots heads) n
 
-abbrev decreases_loop : tie.decreases_loop
+abbrev decreases_loop : tie.decreases-loop-n
 decreases_loop kinds operands slots₀ heads₀ env calls c at n₀ slots heads n = 16 - n
 
-loop_holds : tie.Need-loop-init invariant_loop decreases_loop
-loop_holds c = let a = c.before.before.args in (
+loop_holds : tie.Need-loop-n-init invariant_loop decreases_loop
+loop_holds c = let a = c.args in (
   refl,
   refl,
   appending_none a.kinds.now a.operands.now a.calls a.at a.env.now a.c _,
 )
 
-returns : tie.Need-returns invariant_loop decreases_loop
+returns : tie.Need-returns-then-not-atom_stands invariant_loop decreases_loop
 returns c =
-    appended_end c.before.before.before.loop.invariant.2 (sym c.before.atom_stands.ensures ∙ not-true
-    c.before.atom_stands.result c.if1.true)
+    appended_end c.loop-n.invariant.2 (sym c.atom_stands.ensures ∙ not-true
+    c.atom_stands.result c.if-not-atom_stands.true)
 
-loop_again : tie.Need-loop-preserved invariant_loop decreases_loop
+loop_again : tie.Need-loop-n-preserved invariant_loop decreases_loop
 loop_again c =
-    let o = c.before.before.before.before.before.before.before.before.before.before.before.loop in
-    let word = c.before.before.before.before.before.before.word_of in
-    let one = c.before.before.before.append in (
+    let o = c.loop-n in
+    let word = c.word_of-w in
+    let one = c.append in (
       one.auto.0 ∙ o.invariant.0,
       one.auto.1.0 ∙ o.invariant.1,
       appending_more o.invariant.2
-          c.before.before.before.before.before.before.before.before.before.before.loop-test.true (sym
-          c.before.before.before.before.before.before.before.before.before.atom_stands.ensures ∙ not-false
-          c.before.before.before.before.before.before.before.before.before.atom_stands.result
-          c.before.before.before.before.before.before.before.before.if1.false)
-          c.before.before.before.before.before.before.before.atom_at.result word.result
-          c.before.before.before.before.before.before.before.atom_at.ensures word.ensures _ (rw
+          c.loop-n-test.true (sym
+          c.atom_stands.ensures ∙ not-false
+          c.atom_stands.result
+          c.if-not-atom_stands.false)
+          c.atom_at-a.result word.result
+          c.atom_at-a.ensures word.ensures _ (rw
           (to_z-of_z {z
-          = word.result} (record { sfits = word.type-inv })) at one.ensures),
+          = word.result} (record { sfits = word.type_inv })) at one.ensures),
     )
 
-returns_2 : tie.Need-returns-2 invariant_loop decreases_loop
-returns_2 c = appended_full c.before.loop.invariant.2 (omega arith)
+returns_2 : tie.Need-returns invariant_loop decreases_loop
+returns_2 c = appended_full c.loop-n.invariant.2 (omega arith)
 
 pub append_atoms_spec : {M : Type 1} → statement M
 append_atoms_spec =

@@ -5,22 +5,18 @@ use Rattle.machine_lines.proofs.Counts.{copies_none, copies_some}
 use Rattle.machine_lines.proofs.arrays.retain_copies.Statement.{statement}
 use Rattle.machine_lines.proofs.arrays.retain_copies.Tie as tie
 
-returns : tie.Need-returns
+returns : tie.Need-returns-then-depth-ne0
 returns c =
-    let at-retain-times = c.before.before in
-    let at-named-cell = at-retain-times.before in
-    let at-if1 = at-named-cell.before.before in
-    let start = at-if1.before.before in
-    let a = start.args in
-    let cell = at-named-cell.named-cell in
-    at-retain-times.retain_times.ensures
-    ∙ copies_some a.depth a.w a.n (store_of a.slots.now a.heads.now) at-if1.if1.true
-    cell.result (rw (to_z-of_z {z = a.w} start.ranges.w) at cell.ensures)
+    let a = c.args in
+    let cell = c.named_cell in
+    c.retain_times.ensures
+    ∙ copies_some a.depth a.w a.n (store_of a.slots.now a.heads.now) c.if-depth-ne0.true
+    cell.result (rw (to_z-of_z {z = a.w} c.ranges.w) at cell.ensures)
 
-returns_2 : tie.Need-returns-2
+returns_2 : tie.Need-returns-else-depth-ne0
 returns_2 c =
-    let a = c.before.before.args in
-    copies_none a.depth a.w a.n (store_of a.slots.now a.heads.now) c.if1.false
+    let a = c.args in
+    copies_none a.depth a.w a.n (store_of a.slots.now a.heads.now) c.if-depth-ne0.false
 
 pub retain_copies_spec : {M : Type 1} → statement M
 retain_copies_spec =
