@@ -15,7 +15,7 @@ use Rattle.flatten_functions.specs.Script.{Translatable, Resulting}
 use Rattle.flatten_functions.proofs.Functions.{known, function_past, function_there}
 use Rattle.borrow_table.specs.Gathered.{Gathered, passed}
 use Rattle.borrow_table.specs.Scan.{handed_over, links_in, Scanned}
-use Rattle.soundness.specs.borrowing.Rounds.{Shaped}
+use Rattle.soundness.proofs.borrowing.Rounds.{Shaped}
 use Rattle.borrow_table.proofs.Tables.{shaped_row}
 use Rattle.borrow_table.proofs.Reading.{all_at, not_not}
 use Rattle.borrow_table.proofs.Links.{passed_append, passed_elsewhere, few_links, normal_arguments, arguments}

@@ -5,9 +5,9 @@ use Rattle.prelude.specs.Kit.{◌∙◌, sym, List, length, replicate}
 use Rattle.semantics.specs.Syntax.{Script}
 use Rattle.semantics.specs.Borrow.{Table, borrows, all_borrowed, same_table, reworked, worked_out, borrowed}
 use Rattle.script_read.proofs.Written.{total}
-use Rattle.soundness.specs.borrowing.Rounds.{Shaped, entry_small, all_shaped, reworked_shaped}
-use Rattle.soundness.specs.borrowing.Stable.{Stable, stable}
-use Rattle.soundness.specs.borrowing.Largest.{largest}
+use Rattle.soundness.proofs.borrowing.Rounds.{Shaped, entry_small, all_shaped, reworked_shaped}
+use Rattle.soundness.proofs.borrowing.Stable.{Stable, stable}
+use Rattle.soundness.proofs.borrowing.Largest.{largest}
 use Rattle.borrow_table.specs.Gathered.{Gathered, passed}
 use Rattle.borrow_table.specs.Rounds.{Within, Kept, Settled}
 use Rattle.borrow_table.proofs.Tables.{same_entries}

@@ -2,7 +2,7 @@
 use Rattle.prelude.specs.Kit.{ℕ, ◌<◌, arith, ℕ_discrete, false, Bool, ◌≡◌, ◌∙◌, sym, ap, ◌≢◌, List, [], length, get_or}
 use Rattle.prelude.specs.Kit.{set, length-set, get_or-set_other, get_or-set_same, ext_get_or}
 use Rattle.semantics.specs.Borrow.{Table, borrows}
-use Rattle.soundness.specs.borrowing.Rounds.{Shaped}
+use Rattle.soundness.proofs.borrowing.Rounds.{Shaped}
 
 -- two tables with the same entries
 pub same_entries : {T U : Table} → Shaped T → Shaped U →

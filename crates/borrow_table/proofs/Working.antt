@@ -5,7 +5,7 @@ use Rattle.prelude.specs.Kit.{get_or, set, take, length-take-le, get_or-take, ne
 use Rattle.laws.specs.Tests.{or_left, or_right}
 use Rattle.semantics.specs.Borrow.{Table, borrows}
 use Rattle.borrow_table.specs.Gathered.{passed}
-use Rattle.soundness.specs.borrowing.Rounds.{Shaped, entry_small}
+use Rattle.soundness.proofs.borrowing.Rounds.{Shaped, entry_small}
 use Rattle.borrow_table.specs.Rounds.{row_entries, entries, Within, takes_away, Quiet, Kept, Taken}
 use Rattle.borrow_table.specs.Rounds.{Spared, Reduced, Reworked, Settled}
 use Rattle.borrow_table.proofs.Tables.{shaped_set, entry_set, entry_kept}

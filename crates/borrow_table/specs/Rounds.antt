@@ -2,7 +2,7 @@
 -- away; what is taken away is in no table that the links leave as it is.
 use Rattle.std.specs.Prelude.{ℕ, ◌+◌, ◌*◌, ◌/◌, ◌%◌, ◌<◌, ◌≤◌, ◌≡◌, Bool, true, false, cond, not, ◌&&◌, List, [], ◌∷◌, eqb, get_or, set}
 use Rattle.semantics.specs.Borrow.{Table, borrows}
-use Rattle.soundness.specs.borrowing.Rounds.{Shaped}
+use Rattle.soundness.proofs.borrowing.Rounds.{Shaped}
 use Rattle.borrow_table.specs.Gathered.{passed}
 
 -- how many entries are true

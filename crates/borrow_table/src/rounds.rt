@@ -1,6 +1,6 @@
 // The table of borrowed parameters, reworked until a round changes nothing.
 ghost use Rattle.std.specs.Prelude.{◌≡◌, ◌/◌, ◌<◌, ◌≤◌, length, take};
-ghost use Rattle.soundness.specs.borrowing.Rounds.{Shaped};
+ghost use Rattle.soundness.proofs.borrowing.Rounds.{Shaped};
 ghost use Rattle.borrow_table.specs.Rounds.{Followed, Reworked, Settled};
 
 // The entry, of 256, of the place that a link leads to.

@@ -18,7 +18,7 @@ use Rattle.script.specs.declared.Verdict.TheVariants.{Accepted, Refused}
 use Rattle.script.specs.Verdicts.{told_verdict, Judges}
 use Rattle.script.proofs.Whole.{kinds_of, operands_of, FileTaken, taken}
 use Rattle.script_laws.specs.Nodes.{refused_node}
-use Rattle.soundness.specs.annotation.Accepting.{judged_clean}
+use Rattle.soundness.proofs.annotation.Accepting.{judged_clean}
 use Rattle.flatten_functions.specs.Script.{Translatable}
 use Rattle.translate.specs.Left.{CodeLeft, left_of, Leaves}
 use Rattle.call_load.specs.declared.Loaded.{Loaded}

@@ -11,7 +11,7 @@ use Rattle.semantics.specs.Calls.{StoreReply, translated, refusing, answering, o
 use Rattle.semantics.specs.Calls.{admitted_if, code_fits}
 use Rattle.semantics.specs.Calls.{engine_translate, request_fits, deliver_in, deliver_for}
 use Rattle.semantics.specs.Machine.{program, program_in, delivered}
-use Rattle.soundness.specs.annotation.Accepting.{main_shape_of}
+use Rattle.soundness.proofs.annotation.Accepting.{main_shape_of}
 use Rattle.machine_code.specs.Reading.{Cut}
 use Rattle.machine_spec.specs.Machine as M
 use Rattle.machine_spec.specs.Delivery.{Performs}

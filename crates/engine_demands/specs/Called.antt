@@ -12,13 +12,13 @@ use Rattle.semantics.specs.Demands.{Engine, Demand3, defined, TrueLeast, Rises}
 use Rattle.semantics.specs.SaveCalls.{SaveReply}
 use Rattle.semantics.specs.Larger.{Larger}
 use Rattle.semantics.specs.Swap.{SavingEngine, Words64, Restored, Swap, defined_saving}
-use Rattle.soundness.specs.Demand3.{demand_3, demand_3_within}
-use Rattle.soundness.specs.LowestLevel.{true_least}
-use Rattle.soundness.specs.saved.Restoring.{restored}
-use Rattle.soundness.specs.saved.Swapping.{swap}
-use Rattle.soundness.specs.saved.Within.{Within, restored_within, swap_within}
-use Rattle.leaner.specs.Order8.{rises}
-use Rattle.larger.specs.Larger.{larger, larger_within}
+use Rattle.soundness.proofs.Demand3.{demand_3, demand_3_within}
+use Rattle.soundness.proofs.LowestLevel.{true_least}
+use Rattle.soundness.proofs.saved.Restoring.{restored}
+use Rattle.soundness.proofs.saved.Swapping.{swap}
+use Rattle.soundness.proofs.saved.Within.{Within, restored_within, swap_within}
+use Rattle.leaner.proofs.Order8.{rises}
+use Rattle.larger.proofs.Larger.{larger, larger_within}
 use Rattle.engine.proofs.engine_open.Kinds as O
 use Rattle.engine.proofs.engine_open.Reads as opening
 use Rattle.engine.proofs.engine_deliver.Kinds as D

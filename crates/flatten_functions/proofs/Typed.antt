@@ -19,18 +19,18 @@ use Rattle.semantics.specs.Normal.{normal, parameter_names, normal_body}
 use Rattle.semantics.specs.Machine.{program_in}
 use Rattle.semantics.specs.Annotate.{NameDepths, atom_depth, with_depths, pass_depths, loop_depth, tree_depths}
 use Rattle.semantics.specs.Annotate.{line_depths, parameter_depths_from, result_of}
-use Rattle.discipline.specs.machine.Discipline.{loop_arity}
-use Rattle.discipline.specs.normal.Agree.{below_more, atom_below}
-use Rattle.discipline.specs.normal.Parameters.{parameters_below}
-use Rattle.soundness.specs.annotation.Typed.{count, element_depths, Functions, Typed, AllTyped}
-use Rattle.soundness.specs.annotation.Rules.{depth_of_map, pass_gives, element_count}
-use Rattle.soundness.specs.annotation.Tables.{with_off, with_same, table, tables, lines_table, table_off, tables_off}
-use Rattle.soundness.specs.annotation.Fitted.{MeaningsFit, DepthsAgree, meanings_kept, meanings_up, meanings_updated}
-use Rattle.soundness.specs.annotation.Fitted.{meanings_with, atom_fitted, atoms_fitted, typed_fitted}
-use Rattle.soundness.specs.annotation.Fitted.{all_typed_fitted}
-use Rattle.soundness.specs.annotation.Parameters.{written, written_depth}
-use Rattle.soundness.specs.annotation.Functions.{functions_in, Accepted}
-use Rattle.soundness.specs.annotation.Accepting.{Clean, accepted_at}
+use Rattle.discipline.proofs.machine.Discipline.{loop_arity}
+use Rattle.discipline.proofs.normal.Agree.{below_more, atom_below}
+use Rattle.discipline.proofs.normal.Parameters.{parameters_below}
+use Rattle.soundness.proofs.annotation.Typed.{count, element_depths, Functions, Typed, AllTyped}
+use Rattle.soundness.proofs.annotation.Rules.{depth_of_map, pass_gives, element_count}
+use Rattle.soundness.proofs.annotation.Tables.{with_off, with_same, table, tables, lines_table, table_off, tables_off}
+use Rattle.soundness.proofs.annotation.Fitted.{MeaningsFit, DepthsAgree, meanings_kept, meanings_up, meanings_updated}
+use Rattle.soundness.proofs.annotation.Fitted.{meanings_with, atom_fitted, atoms_fitted, typed_fitted}
+use Rattle.soundness.proofs.annotation.Fitted.{all_typed_fitted}
+use Rattle.soundness.proofs.annotation.Parameters.{written, written_depth}
+use Rattle.soundness.proofs.annotation.Functions.{functions_in, Accepted}
+use Rattle.soundness.proofs.annotation.Accepting.{Clean, accepted_at}
 use Rattle.flatten_rows.specs.Shallow.{Shallow, ShallowLeaf, ShallowLoop}
 
 -- ---- leaves and loops, by their rules

@@ -4,7 +4,7 @@ use Rattle.semantics.specs.Outcome.{Outcome, done, stop}
 use Rattle.semantics.specs.Syntax.{Script}
 use Rattle.semantics.specs.File.{script}
 use Rattle.semantics.specs.Annotate.{result_of}
-use Rattle.soundness.specs.annotation.Accepting.{Clean}
+use Rattle.soundness.proofs.annotation.Accepting.{Clean}
 use Rattle.script_read.specs.Told.{Parts}
 use Rattle.script_read.specs.Starts.{Started}
 

@@ -16,9 +16,9 @@ use Rattle.semantics_lent.specs.Form.{Lent}
 use Rattle.semantics_lent.specs.Fit.{no_lent}
 use Rattle.semantics_lent.specs.Calls.{lent_routines, lent_program, judged_code}
 use Rattle.laws.specs.Levels.{LevelsUpTo, up_to_more}
-use Rattle.discipline.specs.store.LowestLevel.{free_cells_listed}
-use Rattle.discipline.specs.machine.Delivery.{delivers_clean}
-use Rattle.soundness.specs.Settled.{sound_settles}
+use Rattle.discipline.proofs.store.LowestLevel.{free_cells_listed}
+use Rattle.discipline.proofs.machine.Delivery.{delivers_clean}
+use Rattle.soundness.proofs.Settled.{sound_settles}
 use Rattle.lent_soundness.specs.Accepted.{LentFits, Passed, passed, accepted_sound}
 use Rattle.lent_passing.specs.Functions.{parameter_row, lent_function, lent_code, ParametersFormed}
 use Rattle.lent_passing.specs.SaidFunctions.{Lined, AllLined, form_said}

@@ -13,7 +13,7 @@ use Rattle.semantics_lent.specs.Form.{must, Lent}
 use Rattle.semantics_lent.specs.Fit.{Bound, nothing_bound, with_name, Fitted, fit_tree, fit_parameters, fit_function}
 use Rattle.semantics_lent.specs.Fit.{fit_functions, fit, lent_signature, lent_signatures, no_lent, is_main}
 use Rattle.semantics_lent.specs.Calls.{lent_routines, lent_program}
-use Rattle.discipline.specs.machine.Discipline.{Fitting, Scoped, AllNew}
+use Rattle.discipline.proofs.machine.Discipline.{Fitting, Scoped, AllNew}
 use Rattle.laws.specs.Tests.{same_lists}
 use Rattle.laws.specs.Updates.{updated_same}
 use Rattle.lent_soundness.specs.Functions.{AllFew}

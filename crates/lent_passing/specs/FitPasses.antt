@@ -13,8 +13,8 @@ use Rattle.semantics.specs.Machine.{Program}
 use Rattle.semantics_lent.specs.Form.{must}
 use Rattle.semantics_lent.specs.Fit.{Bound, with_name, with_names, all_new, in_scope, all_in_scope, scope_after}
 use Rattle.semantics_lent.specs.Fit.{is_looped, loop_gives, depth_or_fault, Fitted, fit_tree, fit_line}
-use Rattle.discipline.specs.machine.Discipline.{array_place, loop_arity, Fitting, LineFitting, Known, AllKnown, Scoped}
-use Rattle.discipline.specs.machine.Discipline.{LineScoped}
+use Rattle.discipline.proofs.machine.Discipline.{array_place, loop_arity, Fitting, LineFitting, Known, AllKnown, Scoped}
+use Rattle.discipline.proofs.machine.Discipline.{LineScoped}
 use Rattle.laws.specs.Updates.{updated_same}
 use Rattle.laws.specs.Tests.{some_if_holds}
 use Rattle.lent_passing.specs.Reading.{and_then}

@@ -14,8 +14,8 @@ use Rattle.semantics.specs.Machine.{Program}
 use Rattle.semantics_lent.specs.Form.{must}
 use Rattle.semantics_lent.specs.Fit.{Bound, with_name, with_names, all_new, in_scope, all_in_scope, scope_after}
 use Rattle.semantics_lent.specs.Fit.{is_looped, loop_gives, depth_or_fault, Fitted, fit_tree, fit_line}
-use Rattle.discipline.specs.machine.Discipline.{LeafLimits, array_place, loop_arity, Fitting, LineFitting, Scoped}
-use Rattle.discipline.specs.machine.Discipline.{LineScoped}
+use Rattle.discipline.proofs.machine.Discipline.{LeafLimits, array_place, loop_arity, Fitting, LineFitting, Scoped}
+use Rattle.discipline.proofs.machine.Discipline.{LineScoped}
 use Rattle.laws.specs.Updates.{updated_same, updated_other}
 use Rattle.lent_passing.specs.Ends.{Ends, ends_then, ends_more, ends_required}
 use Rattle.lent_passing.specs.Reading.{Formed, LineFormed, LoopFormed}

@@ -8,7 +8,7 @@ use Rattle.semantics.specs.Code.{Atom, number, name}
 use Rattle.semantics.specs.Live.{Set, ◌∪◌, only, just}
 use Rattle.semantics.specs.Annotate.{NameDepths, atom_depth, depth_of, pass_depths}
 use Rattle.semantics_lent.specs.Fit.{Bound, with_name, with_names, all_new, in_scope, all_in_scope}
-use Rattle.discipline.specs.machine.Discipline.{Known, AllKnown, AllNew}
+use Rattle.discipline.proofs.machine.Discipline.{Known, AllKnown, AllNew}
 use Rattle.laws.specs.Updates.{updated_same, updated_other}
 use Rattle.lent_passing.specs.Reading.{LoopFormed}
 

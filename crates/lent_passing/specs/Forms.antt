@@ -11,8 +11,8 @@ use Rattle.semantics.specs.Live.{Set, ◌∪◌, only, just}
 use Rattle.semantics.specs.Annotate.{NameDepths, atom_depth, pass_depths}
 use Rattle.semantics.specs.Machine.{Program}
 use Rattle.laws.specs.Tests.{some_if_holds, same_lists}
-use Rattle.discipline.specs.machine.Discipline.{loop_arity, LeafFits, Fitting, LineFitting, Known, AllKnown, AllNew}
-use Rattle.discipline.specs.machine.Discipline.{known_after, Scoped, LineScoped}
+use Rattle.discipline.proofs.machine.Discipline.{loop_arity, LeafFits, Fitting, LineFitting, Known, AllKnown, AllNew}
+use Rattle.discipline.proofs.machine.Discipline.{known_after, Scoped, LineScoped}
 use Rattle.lent_passing.specs.Reading.{SmallAtom, SmallAtoms, LoopFormed, LeafFormed, Formed, LineFormed}
 use Rattle.lent_passing.specs.Fits.{or_cases}
 use Rattle.lent_passing.specs.Skeletons.{Nested, LineNested}

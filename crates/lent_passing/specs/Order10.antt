@@ -10,7 +10,7 @@ use Rattle.semantics.specs.Calls.{packed, number_of, Verdict, accepted, refused,
 use Rattle.semantics.specs.Calls.{code_fits, Reply, translated, engine_translate}
 use Rattle.semantics_lent.specs.Calls.{checking, engine_check_code}
 use Rattle.script_laws.specs.Nodes.{Numbered, judged_numbered}
-use Rattle.soundness.specs.Answers.{number_packed}
+use Rattle.soundness.proofs.Answers.{number_packed}
 use Rattle.semantics_lent.specs.Demands.{Passes, WorksLent, TranslatedPasses, defined_lent}
 use Rattle.lent_soundness.specs.Works.{works_lent}
 use Rattle.lent_passing.specs.Accepts.{fits_say}

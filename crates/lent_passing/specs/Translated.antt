@@ -14,10 +14,10 @@ use Rattle.semantics.specs.Calls.{accepted, judged}
 use Rattle.semantics_lent.specs.Form.{Lent, form, arities_of, must}
 use Rattle.semantics_lent.specs.Fit.{fit_function, fit_functions, fit, lent_signatures, is_main}
 use Rattle.laws.specs.Routines.{length_routines, routine_is}
-use Rattle.discipline.specs.machine.Discipline.{RoutineDisciplined}
-use Rattle.soundness.specs.annotation.Reader as R
-use Rattle.soundness.specs.annotation.Reader.{FunctionLimits}
-use Rattle.soundness.specs.annotation.Accepting.{judged_clean, functions_disciplined, main_shape_of}
+use Rattle.discipline.proofs.machine.Discipline.{RoutineDisciplined}
+use Rattle.soundness.proofs.annotation.Reader as R
+use Rattle.soundness.proofs.annotation.Reader.{FunctionLimits}
+use Rattle.soundness.proofs.annotation.Accepting.{judged_clean, functions_disciplined, main_shape_of}
 use Rattle.semantics_lent.specs.Hold.{lent_table}
 use Rattle.semantics_lent.specs.Calls.{lent_program, judged_holds, judged_depths, judged_form, judged_code}
 use Rattle.lent_soundness.specs.Passing.{new_parameters, lents_from, lents_of, depths_in, code_holds}

@@ -17,9 +17,9 @@ use Rattle.semantics.specs.Machine.{program, first_names}
 use Rattle.semantics_lent.specs.Form.{must}
 use Rattle.semantics_lent.specs.Fit.{Bound, nothing_bound, with_name, fit_tree, fit_parameters, fit_function}
 use Rattle.laws.specs.Updates.{updated_same, updated_other}
-use Rattle.discipline.specs.machine.Discipline.{RoutineDisciplined, Scoped}
-use Rattle.soundness.specs.annotation.Reader as R
-use Rattle.soundness.specs.annotation.Reader.{FunctionLimits}
+use Rattle.discipline.proofs.machine.Discipline.{RoutineDisciplined, Scoped}
+use Rattle.soundness.proofs.annotation.Reader as R
+use Rattle.soundness.proofs.annotation.Reader.{FunctionLimits}
 use Rattle.lent_soundness.specs.Passing.{new_parameters}
 use Rattle.lent_passing.specs.Functions.{ParametersFormed, FunctionFormed}
 use Rattle.lent_passing.specs.FitPasses.{Reaches, reach_then, after_tree, Once, Sees, tree_passes}

@@ -18,13 +18,13 @@ use Rattle.semantics_lent.specs.Fit.{lent_signatures, fit}
 use Rattle.semantics_lent.specs.Hold.{lent_table, hold}
 use Rattle.semantics_lent.specs.Calls.{lent_routines, lent_program, judged_holds, judged_depths, judged_form}
 use Rattle.semantics_lent.specs.Calls.{judged_code}
-use Rattle.discipline.specs.machine.Discipline.{Fitting, Scoped, AllNew}
-use Rattle.discipline.specs.machine.Size.{tree_rows}
-use Rattle.discipline.specs.machine.Agreement.{Start}
-use Rattle.discipline.specs.machine.Calls.{ProgramDisciplined}
-use Rattle.discipline.specs.machine.Delivery.{Delivers, delivery_sound}
-use Rattle.soundness.specs.Settled.{Settled}
-use Rattle.soundness.specs.Delivering.{few_readings}
+use Rattle.discipline.proofs.machine.Discipline.{Fitting, Scoped, AllNew}
+use Rattle.discipline.proofs.machine.Size.{tree_rows}
+use Rattle.discipline.proofs.machine.Agreement.{Start}
+use Rattle.discipline.proofs.machine.Calls.{ProgramDisciplined}
+use Rattle.discipline.proofs.machine.Delivery.{Delivers, delivery_sound}
+use Rattle.soundness.proofs.Settled.{Settled}
+use Rattle.soundness.proofs.Delivering.{few_readings}
 use Rattle.lent_soundness.specs.Answers.{Ends}
 use Rattle.lent_soundness.specs.Functions.{RoutineHolds, AllFew, AllHold, hold_at, hold_decides}
 use Rattle.lent_soundness.specs.Tables.{lent_stable}

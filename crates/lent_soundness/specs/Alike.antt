@@ -13,8 +13,8 @@ use Rattle.semantics.specs.Borrow.{spent, line_spent}
 use Rattle.semantics.specs.Machine.{Program}
 use Rattle.laws.specs.Lists.{◌⊆◌}
 use Rattle.laws.specs.Tests.{some_if_holds, same_lists}
-use Rattle.discipline.specs.machine.Discipline.{LeafFits, Fitting, LineFitting, ◌⊑◌, less, handed, hold_of, left_by}
-use Rattle.discipline.specs.machine.Discipline.{holds_after, waits_after, leaf_holds, Holding, LineHolding}
+use Rattle.discipline.proofs.machine.Discipline.{LeafFits, Fitting, LineFitting, ◌⊑◌, less, handed, hold_of, left_by}
+use Rattle.discipline.proofs.machine.Discipline.{holds_after, waits_after, leaf_holds, Holding, LineHolding}
 
 pub picked_alike : {A : Type 0} (at bt : ℕ → Bool) (n : ℕ) (us : List A) →
     ((i : ℕ) → n ≤ i → i < n + length us → at i ≡ bt i) → picked at n us ≡ picked bt n us

@@ -9,12 +9,12 @@ use Rattle.semantics.specs.Live.{Set, empty, ◌∪◌, only}
 use Rattle.semantics.specs.Annotate.{NameDepths, is_array}
 use Rattle.laws.specs.Lists.{◌⊆◌, hits, occurrences_append}
 use Rattle.laws.specs.Tests.{or_cases, or_left, or_right}
-use Rattle.discipline.specs.store.Counting.{append_cases}
-use Rattle.discipline.specs.machine.Images.{first_or_later}
-use Rattle.discipline.specs.machine.Discipline.{less, handed, hold_of, waits_after, left_by, holds_after, Holding}
-use Rattle.discipline.specs.machine.Discipline.{LineHolding, Scoped, LineScoped, known_after}
-use Rattle.discipline.specs.machine.Spending.{less_in}
-use Rattle.discipline.specs.machine.Rules.{Names}
+use Rattle.discipline.proofs.store.Counting.{append_cases}
+use Rattle.discipline.proofs.machine.Images.{first_or_later}
+use Rattle.discipline.proofs.machine.Discipline.{less, handed, hold_of, waits_after, left_by, holds_after, Holding}
+use Rattle.discipline.proofs.machine.Discipline.{LineHolding, Scoped, LineScoped, known_after}
+use Rattle.discipline.proofs.machine.Spending.{less_in}
+use Rattle.discipline.proofs.machine.Rules.{Names}
 
 -- the name that a line binds after its trees
 abbrev pub bound : Line → Set

@@ -14,11 +14,11 @@ use Rattle.semantics.specs.Ledger.{Delivery, dry_steps, wants_cell}
 use Rattle.semantics.specs.Demands.{Least}
 use Rattle.semantics_lent.specs.Calls.{judged_code, refusing_code, answering_code, deliver_code_for}
 use Rattle.semantics_lent.specs.Calls.{engine_deliver_code}
-use Rattle.discipline.specs.store.LowestLevel.{free_cells_listed, least_level}
-use Rattle.discipline.specs.machine.Agreement.{Start, Clean}
-use Rattle.discipline.specs.machine.Delivery.{Delivers, finishes, stops, runs_dry}
-use Rattle.soundness.specs.Answers.{not_dry, dry_packed}
-use Rattle.soundness.specs.Settled.{Settled, settled_words, relinked_settles, relinked_alone}
+use Rattle.discipline.proofs.store.LowestLevel.{free_cells_listed, least_level}
+use Rattle.discipline.proofs.machine.Agreement.{Start, Clean}
+use Rattle.discipline.proofs.machine.Delivery.{Delivers, finishes, stops, runs_dry}
+use Rattle.soundness.proofs.Answers.{not_dry, dry_packed}
+use Rattle.soundness.proofs.Settled.{Settled, settled_words, relinked_settles, relinked_alone}
 use Rattle.lent_soundness.specs.Accepted.{FitsSay, lent_start, accepted_sound}
 use Rattle.semantics_lent.specs.Demands.{By, by_code, Admitted, lent, turned_away, of_code, admission, code_meant}
 use Rattle.semantics_lent.specs.Demands.{Entry, refusal, worked, entry_by, entry, value_after, answer_of, NoneFree}

@@ -15,10 +15,10 @@ use Rattle.semantics.specs.Ledger as L
 use Rattle.semantics.specs.Ledger.{Delivery, meant, dry_steps}
 use Rattle.semantics.specs.Demands as D
 use Rattle.semantics.specs.Demands.{value_of}
-use Rattle.soundness.specs.Delivering.{delivers, few_lines}
-use Rattle.soundness.specs.Step as Step
-use Rattle.soundness.specs.Step.{Standing}
-use Rattle.soundness.specs.Demand2.{admitted_says}
+use Rattle.soundness.proofs.Delivering.{delivers, few_lines}
+use Rattle.soundness.proofs.Step as Step
+use Rattle.soundness.proofs.Step.{Standing}
+use Rattle.soundness.proofs.Demand2.{admitted_says}
 use Rattle.semantics_lent.specs.Demands.{By, by_file, Admitted, script, lent, turned_away, of_verdict, admission, Entry}
 use Rattle.semantics_lent.specs.Demands.{refusal, worked, entry_of, entry_by, entry, value_after, answer_of, Job, Owed}
 use Rattle.lent_soundness.specs.Steps.{StandsAt, Stepped, same_depth, other_depth}

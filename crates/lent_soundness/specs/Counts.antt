@@ -14,11 +14,11 @@ use Rattle.semantics_lent.specs.Hold.{hold_all, spend_name, spend, readable, set
 use Rattle.laws.specs.Lists.{◌≈◌, ◌⊆◌, hits, occurrences_append, occurs_first}
 use Rattle.laws.specs.Tests.{both_hold, say_and, or_cases, or_left, or_right}
 use Rattle.laws.specs.Updates.{updated_same, updated_there}
-use Rattle.discipline.specs.machine.Discipline.{◌⊑◌, less, unlent, hold_of, holds_of, handed}
-use Rattle.discipline.specs.machine.Spending.{less_counts, less_in, spend_one}
-use Rattle.discipline.specs.machine.Parameters.{just_in, holds_in, holds_arrays}
-use Rattle.discipline.specs.store.Counting.{append_cases}
-use Rattle.soundness.specs.annotation.Held.{held, held_among, held_empty, held_live}
+use Rattle.discipline.proofs.machine.Discipline.{◌⊑◌, less, unlent, hold_of, holds_of, handed}
+use Rattle.discipline.proofs.machine.Spending.{less_counts, less_in, spend_one}
+use Rattle.discipline.proofs.machine.Parameters.{just_in, holds_in, holds_arrays}
+use Rattle.discipline.proofs.store.Counting.{append_cases}
+use Rattle.soundness.proofs.annotation.Held.{held, held_among, held_empty, held_live}
 use Rattle.lent_soundness.specs.Answers.{Answers, answers_give, answers_then, answers_must, answers_map}
 
 -- ---- tests of all names

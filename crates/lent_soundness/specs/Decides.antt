@@ -12,10 +12,10 @@ use Rattle.semantics_lent.specs.Hold.{Holds, After, same_holds, none_bound, arra
 use Rattle.semantics_lent.specs.Hold.{lending, readable, hold_tree, hold_line}
 use Rattle.laws.specs.Lists.{◌≈◌, ◌⊆◌, occurrences_append}
 use Rattle.laws.specs.Tests.{or_cases, or_left, or_right}
-use Rattle.discipline.specs.store.Counting.{append_cases}
-use Rattle.discipline.specs.machine.Discipline.{less, hold_of, holds_of, handed, waits_after, outer_holds, pass_lent}
-use Rattle.discipline.specs.machine.Discipline.{pass_holds, left_by, holds_after, Holding, LineHolding}
-use Rattle.discipline.specs.machine.Spending.{spend_split, less_spends, holding_left, holding_same}
+use Rattle.discipline.proofs.store.Counting.{append_cases}
+use Rattle.discipline.proofs.machine.Discipline.{less, hold_of, holds_of, handed, waits_after, outer_holds, pass_lent}
+use Rattle.discipline.proofs.machine.Discipline.{pass_holds, left_by, holds_after, Holding, LineHolding}
+use Rattle.discipline.proofs.machine.Spending.{spend_split, less_spends, holding_left, holding_same}
 use Rattle.lent_soundness.specs.Answers.{Answers, answers_give, answers_then, answers_must, answers_skip}
 use Rattle.lent_soundness.specs.Answers.{answers_map}
 use Rattle.lent_soundness.specs.Counts.{Counts, Members, member_in, in_member, held_in, in_held, none_members}

@@ -11,8 +11,8 @@ use Rattle.semantics_lent.specs.Hold.{none_held, hold_all, same_holds, hold_func
 use Rattle.semantics_lent.specs.Hold.{lent_table, hold}
 use Rattle.semantics_lent.specs.Calls.{lent_routines}
 use Rattle.laws.specs.Lists.{occurrences_append}
-use Rattle.discipline.specs.machine.Discipline.{Holding, left_by, lent_parameters, parameter_holds}
-use Rattle.discipline.specs.machine.Spending.{holding_left, holding_same}
+use Rattle.discipline.proofs.machine.Discipline.{Holding, left_by, lent_parameters, parameter_holds}
+use Rattle.discipline.proofs.machine.Spending.{holding_left, holding_same}
 use Rattle.lent_soundness.specs.Answers.{Ends, Answers, answers_give, answers_then, answers_skip, answers_map}
 use Rattle.lent_soundness.specs.Counts.{Counts, none_counted, none_members, counts_same, counts_all, members_all}
 use Rattle.lent_soundness.specs.Decides.{just, same_tells, tree_decides}

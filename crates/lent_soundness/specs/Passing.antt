@@ -22,14 +22,14 @@ use Rattle.semantics_lent.specs.Calls.{lent_routines}
 use Rattle.laws.specs.Tests.{both_hold, say_and}
 use Rattle.laws.specs.Lists.{tabulate_length}
 use Rattle.laws.specs.Routines.{length_routines, routine_is}
-use Rattle.discipline.specs.machine.Discipline.{holds_of, Holding, Fitting}
-use Rattle.soundness.specs.borrowing.Rounds.{Within}
-use Rattle.soundness.specs.borrowing.Spending.{StableBy}
-use Rattle.soundness.specs.borrowing.Stable.{Stable, stable}
-use Rattle.soundness.specs.borrowing.Largest.{largest}
-use Rattle.soundness.specs.annotation.Functions as F
-use Rattle.soundness.specs.annotation.Functions.{Accepted}
-use Rattle.soundness.specs.annotation.Accepting.{all_accepted, functions_disciplined}
+use Rattle.discipline.proofs.machine.Discipline.{holds_of, Holding, Fitting}
+use Rattle.soundness.proofs.borrowing.Rounds.{Within}
+use Rattle.soundness.proofs.borrowing.Spending.{StableBy}
+use Rattle.soundness.proofs.borrowing.Stable.{Stable, stable}
+use Rattle.soundness.proofs.borrowing.Largest.{largest}
+use Rattle.soundness.proofs.annotation.Functions as F
+use Rattle.soundness.proofs.annotation.Functions.{Accepted}
+use Rattle.soundness.proofs.annotation.Accepting.{all_accepted, functions_disciplined}
 use Rattle.lent_soundness.specs.Answers.{Ends}
 use Rattle.lent_soundness.specs.Counts.{bool_same}
 use Rattle.lent_soundness.specs.Functions.{Few, RoutineHolds, AllHold, AllFew, hold_decides}

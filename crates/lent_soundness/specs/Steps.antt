@@ -13,8 +13,8 @@ use Rattle.semantics.specs.Demands.{value_of}
 use Rattle.laws.specs.Tests.{both_hold}
 use Rattle.laws.specs.Lists.{occurs_first}
 use Rattle.laws.specs.Levels.{lowest_most}
-use Rattle.discipline.specs.store.Rest.{Rests}
-use Rattle.soundness.specs.Settled.{Settled, sound_settles, settled_sound, settled_words, settled_rests}
+use Rattle.discipline.proofs.store.Rest.{Rests}
+use Rattle.soundness.proofs.Settled.{Settled, sound_settles, settled_sound, settled_words, settled_rests}
 use Rattle.semantics_lent.specs.Demands.{By, Admitted, lent, admission, entry, value_after, answer_of, Job, Owed}
 use Rattle.semantics_lent.specs.Demands.{CodeLeft, Agrees, entered}
 

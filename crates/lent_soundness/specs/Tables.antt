@@ -6,10 +6,10 @@ use Rattle.semantics.specs.Borrow.{spent, Table, borrows, all_borrowed}
 use Rattle.semantics_lent.specs.Form.{Lent}
 use Rattle.semantics_lent.specs.Fit.{no_lent}
 use Rattle.semantics_lent.specs.Hold.{names_of, name_in, reworked_lent, worked_lent, lent_table}
-use Rattle.soundness.specs.borrowing.Rounds.{Within}
-use Rattle.soundness.specs.borrowing.Spending.{Spending, round_by, rounds_by, StableBy, rounds_are, rounds_stable}
-use Rattle.soundness.specs.borrowing.Spending.{rounds_largest}
-use Rattle.soundness.specs.borrowing.Largest.{spent_fewer}
+use Rattle.soundness.proofs.borrowing.Rounds.{Within}
+use Rattle.soundness.proofs.borrowing.Spending.{Spending, round_by, rounds_by, StableBy, rounds_are, rounds_stable}
+use Rattle.soundness.proofs.borrowing.Spending.{rounds_largest}
+use Rattle.soundness.proofs.borrowing.Largest.{spent_fewer}
 
 abbrev pub lent_spends : List Lent → Spending
 lent_spends gs B f i = name_in (spent B (get_or gs f no_lent).tree) (names_of (get_or gs f no_lent)) i

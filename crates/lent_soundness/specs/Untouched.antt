@@ -13,11 +13,11 @@ use Rattle.semantics.specs.Annotate.{NameDepths, atom_depth, is_array, arrays, d
 use Rattle.semantics.specs.Annotate.{annotate, annotate_line}
 use Rattle.laws.specs.Tests.{both_hold, or_cases, or_left, or_right}
 use Rattle.laws.specs.Lists.{occurs_first}
-use Rattle.discipline.specs.machine.Images.{first_or_later}
-use Rattle.soundness.specs.annotation.Typed.{Functions}
-use Rattle.soundness.specs.annotation.Formed.{Formed, LineFormed, bound_by}
-use Rattle.soundness.specs.annotation.Members.{members_true}
-use Rattle.soundness.specs.annotation.Sparing.{Owned, AllOwned, Spares, LineSpares, array_owned}
+use Rattle.discipline.proofs.machine.Images.{first_or_later}
+use Rattle.soundness.proofs.annotation.Typed.{Functions}
+use Rattle.soundness.proofs.annotation.Formed.{Formed, LineFormed, bound_by}
+use Rattle.soundness.proofs.annotation.Members.{members_true}
+use Rattle.soundness.proofs.annotation.Sparing.{Owned, AllOwned, Spares, LineSpares, array_owned}
 
 or_none : (a b : Bool) → a ≡ false → b ≡ false → (a || b) ≡ false
 or_none a b p q = rw (p, q)

@@ -7,10 +7,10 @@ use Rattle.semantics.specs.Calls.{number_of, StoreReply}
 use Rattle.semantics.specs.Ledger.{Delivery}
 use Rattle.semantics.specs.Demands.{defined}
 use Rattle.semantics.specs.Swap.{defined_saving}
-use Rattle.soundness.specs.Settled.{settled_rests}
-use Rattle.soundness.specs.Step.{Standing}
-use Rattle.soundness.specs.Demand3.{open_accepts, opening_stands}
-use Rattle.soundness.specs.saved.Restoring.{restored_from}
+use Rattle.soundness.proofs.Settled.{settled_rests}
+use Rattle.soundness.proofs.Step.{Standing}
+use Rattle.soundness.proofs.Demand3.{open_accepts, opening_stands}
+use Rattle.soundness.proofs.saved.Restoring.{restored_from}
 use Rattle.lent_soundness.specs.Accepted.{FitsSay}
 use Rattle.semantics_lent.specs.Demands.{By, by_file, by_code, script, lent, admission, Job, Calls, InTurn, Kept}
 use Rattle.semantics_lent.specs.Demands.{WorksLent, defined_lent}

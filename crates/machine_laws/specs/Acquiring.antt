@@ -9,8 +9,8 @@ use Rattle.semantics.specs.Machine as M
 use Rattle.semantics.specs.Machine.{State, acquire, acquire_if}
 use Rattle.laws.specs.Lists.{occurs_first}
 use Rattle.laws.specs.Levels.{counted_there}
-use Rattle.discipline.specs.store.Invariant.{Invariant}
-use Rattle.discipline.specs.store.FreeList.{Links, listed}
+use Rattle.discipline.proofs.store.Invariant.{Invariant}
+use Rattle.discipline.proofs.store.FreeList.{Links, listed}
 use Rattle.store.specs.Acquiring.{Gained, gained, first_cell, next_cell}
 use Rattle.store.proofs.Acquiring.{with_remaining}
 use Rattle.machine_frames.specs.Frames.{level_of}

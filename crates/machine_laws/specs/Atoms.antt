@@ -6,7 +6,7 @@ use Rattle.semantics.specs.Code.{atom_row}
 use Rattle.semantics.specs.Live.{Set}
 use Rattle.semantics.specs.Machine.{Frame, word}
 use Rattle.semantics.specs.Machine.{argument}
-use Rattle.discipline.specs.machine.Discipline.{AllKnown}
+use Rattle.discipline.proofs.machine.Discipline.{AllKnown}
 use Rattle.machine_code.specs.Reading.{atom_at, is_atom}
 use Rattle.kinds.specs.declared.Atom.{Atom}
 use Rattle.machine_frames.specs.Frames.{word_of, words_at, arguments_at, arguments_within}

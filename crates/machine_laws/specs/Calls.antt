@@ -8,7 +8,7 @@ use Rattle.semantics.specs.Code.{rows}
 use Rattle.semantics.specs.Live.{Set, ◌∪◌, only, empty, just}
 use Rattle.semantics.specs.Machine.{Event, State, Program, routine_of, framed, machine}
 use Rattle.laws.specs.Tests.{or_right}
-use Rattle.discipline.specs.machine.Discipline.{Fitting, AllNew, Scoped}
+use Rattle.discipline.proofs.machine.Discipline.{Fitting, AllNew, Scoped}
 use Rattle.machine_code.specs.Reading.{low_bits, name_at, depth_in}
 use Rattle.machine_code.proofs.Reading.{no_bool}
 use Rattle.machine_frames.specs.Frames.{frame_words, place, function_place, put_named, called}

@@ -8,7 +8,7 @@ use Rattle.semantics.specs.Code as C
 use Rattle.semantics.specs.Live.{Set, ◌∪◌, only, just}
 use Rattle.semantics.specs.Machine.{Frame, word, argument, binding}
 use Rattle.laws.specs.Tests.{or_cases, or_left}
-use Rattle.discipline.specs.machine.Discipline.{Known, AllNew, known_after, LineScoped}
+use Rattle.discipline.proofs.machine.Discipline.{Known, AllNew, known_after, LineScoped}
 use Rattle.machine_code.specs.Reading.{low_bits}
 use Rattle.machine_code.proofs.Reading.{no_bool}
 use Rattle.machine_frames.specs.Frames.{frame_words, place, function_place, function_of, word_of}

@@ -18,9 +18,9 @@ use Rattle.semantics.specs.Machine as M
 use Rattle.semantics.specs.Machine.{State, Frame, Program, word, with_left, work_leaf, work_line, acquire, acquire_if}
 use Rattle.semantics.specs.Machine.{elements_of, retain_word, held, argument, touching, is_count}
 use Rattle.semantics.specs.Machine.{if_array, retain_times, acquires}
-use Rattle.discipline.specs.machine.Fits.{replicate_fits}
+use Rattle.discipline.proofs.machine.Fits.{replicate_fits}
 use Rattle.laws.specs.Tests.{some_if_holds, same_lists}
-use Rattle.discipline.specs.machine.Discipline.{AllKnown, New, LeafFits}
+use Rattle.discipline.proofs.machine.Discipline.{AllKnown, New, LeafFits}
 use Rattle.words.specs.Words.{checked}
 use Rattle.store.specs.Acquiring.{Gained, gained, next_cell}
 use Rattle.machine_code.specs.Reading.{atom_at, is_atom, line_of, line_at, depth_in}

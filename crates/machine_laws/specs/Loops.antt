@@ -16,7 +16,7 @@ use Rattle.semantics.specs.Machine.{State, Frame, Program, word, step, stepped, 
 use Rattle.semantics.specs.Machine.{elements_of, held, touching, looped_over}
 use Rattle.semantics.specs.Machine.{carried_first, pass_words, in_progress, loop_ends}
 use Rattle.laws.specs.Tests.{or_left}
-use Rattle.discipline.specs.machine.Discipline.{AllKnown, New, AllNew, LoopFits, Fitting, Scoped}
+use Rattle.discipline.proofs.machine.Discipline.{AllKnown, New, AllNew, LoopFits, Fitting, Scoped}
 use Rattle.machine_code.specs.Reading.{atom_at, line_of, line_at, depth_in, end_in}
 use Rattle.kinds.specs.declared.Atom.{Atom}
 use Rattle.machine_code.specs.declared.Line.{Line}

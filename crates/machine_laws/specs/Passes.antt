@@ -15,7 +15,7 @@ use Rattle.semantics.specs.Machine.{touching, release_events, acquire, append_wo
 use Rattle.semantics.specs.Machine.{argument, carried_first, pass_words, taken_by, in_place, carried_on, loop_ends}
 use Rattle.semantics.specs.Machine.{if_array, retain_word}
 use Rattle.laws.specs.Tests.{or_right}
-use Rattle.discipline.specs.machine.Discipline.{New, AllNew}
+use Rattle.discipline.proofs.machine.Discipline.{New, AllNew}
 use Rattle.machine_frames.specs.Frames.{place, raised}
 use Rattle.machine_frames.specs.Work.{memory, Ran, ran, out, halted, bound}
 use Rattle.machine_lines.specs.Lines.{acquired_given, cell_from, acquired_memory, released_memory}

@@ -8,7 +8,7 @@ use Rattle.semantics.specs.Live.{Set, ◌∪◌, only}
 use Rattle.semantics.specs.Store.{Store}
 use Rattle.semantics.specs.Machine as M
 use Rattle.semantics.specs.Machine.{State, Frame, Program, step, stepped, with_left}
-use Rattle.discipline.specs.machine.Discipline.{New}
+use Rattle.discipline.proofs.machine.Discipline.{New}
 use Rattle.machine_frames.specs.Frames.{frame_words, place, function_place}
 use Rattle.machine_frames.specs.Work.{Memory, memory, Ran, ran, out, halted, stepping}
 use Rattle.machine_lines.specs.Lines.{Given, gave}

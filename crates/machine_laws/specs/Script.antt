@@ -2,8 +2,8 @@
 use Rattle.prelude.specs.Kit.{ℕ, ◌≤◌, ◌+◌, ◌<◌, suc, zero, ◌*◌, ◌%◌, arith, true, ◌≡◌, refl, ◌∙◌, sym, ap, subst, List}
 use Rattle.prelude.specs.Kit.{[], ◌∷◌, ◌++◌, map, append_assoc, ℤ, pos, length, get_or, take, length-append, length-map}
 use Rattle.prelude.specs.Kit.{get_or-append_seam}
-use Rattle.discipline.specs.machine.Size.{function_within}
-use Rattle.soundness.specs.Delivering.{levels_bounded}
+use Rattle.discipline.proofs.machine.Size.{function_within}
+use Rattle.soundness.proofs.Delivering.{levels_bounded}
 use Rattle.semantics.specs.Syntax.{Parameter, Function, Script, function_at, no_function, main_depth}
 use Rattle.semantics.specs.Code.{Row, rows}
 use Rattle.semantics.specs.Borrow.{Table, borrowed}
@@ -13,8 +13,8 @@ use Rattle.semantics.specs.Words.{store_of}
 use Rattle.semantics.specs.Sound.{sound_words}
 use Rattle.semantics.specs.Machine.{Routine, program_in, program, routine_of, delivered}
 use Rattle.semantics.specs.Basics.{tabulate}
-use Rattle.soundness.specs.annotation.Reader.{AllOf, FunctionLimits}
-use Rattle.soundness.specs.annotation.Accepting.{Clean, judged_clean, functions_disciplined, main_shape_of}
+use Rattle.soundness.proofs.annotation.Reader.{AllOf, FunctionLimits}
+use Rattle.soundness.proofs.annotation.Accepting.{Clean, judged_clean, functions_disciplined, main_shape_of}
 use Rattle.laws.specs.Routines.{length_routines, routine_is}
 use Rattle.machine_code.specs.Reading.{low_bits, depth_in, start_in}
 use Rattle.machine_spec.specs.Machine as M

@@ -13,8 +13,8 @@ use Rattle.semantics.specs.Live.{Set, ◌∪◌, only, live, after_branch}
 use Rattle.semantics.specs.Annotate.{NameDepths, atom_depth}
 use Rattle.semantics.specs.Machine as M
 use Rattle.semantics.specs.Machine.{State, Frame, Program, word, with_left, work, work_line}
-use Rattle.discipline.specs.machine.Discipline.{Known, New, known_after, LineFitting, Fitting, LineScoped, Scoped}
-use Rattle.discipline.specs.machine.Rules.{known_stays}
+use Rattle.discipline.proofs.machine.Discipline.{Known, New, known_after, LineFitting, Fitting, LineScoped, Scoped}
+use Rattle.discipline.proofs.machine.Rules.{known_stays}
 use Rattle.machine_code.specs.Reading.{is_atom, atom_at, line_of, line_at, depth_in, end_in}
 use Rattle.kinds.specs.declared.Atom.{Atom}
 use Rattle.machine_frames.specs.Frames.{word_of}

@@ -37,5 +37,4 @@ pub mod Borrows
 pub mod Rewriting
 pub mod Watched
 pub mod Carried
-pub mod Boards
 pub mod Rows

@@ -1,5 +1,5 @@
 -- `script_types::type_script` meets its contract, by the laws of `Laws` and `Turns`.
-use Rattle.prelude.specs.Kit.{arith, ◌≡◌, refl, ◌∙◌, sym, rules, not-true, not-false}
+use Rattle.prelude.specs.Kit.{arith, ◌≡◌, refl, ◌∙◌, sym, rules, not-true, not-false, ap, not}
 use Rattle.script_read.specs.Told.{repeated}
 use Rattle.script_read.proofs.Turns.{repeated_goes, repeated_stops, repeated_none}
 use Rattle.script_types.specs.Functions.{known_function}
@@ -16,7 +16,7 @@ abbrev decreases_loop : tie.decreases-loop-left
 decreases_loop kinds operands starts functions p₀ left₀ p left = left
 
 returns : tie.Need-returns-then-not-main_fits invariant_loop decreases_loop
-returns c = wrong_shape _ _ _ _ _ c.main_fits.ensures (not-true _ c.if-not-main_fits.true)
+returns c = wrong_shape _ _ _ _ _ c.main_fits.ensures c.if-not-main_fits.true
 
 loop_holds : tie.Need-loop-left-init invariant_loop decreases_loop
 loop_holds c = refl
@@ -24,7 +24,7 @@ loop_holds c = refl
 returns_2 : tie.Need-returns-in-Refused invariant_loop decreases_loop
 returns_2 c =
     right_shape _ _ _ _ _ c.main_fits.ensures (not-false _
-    c.if-not-main_fits.false) _
+    (ap not c.if-not-main_fits.false)) _
     (repeated_stops _ _ _ _ _ _ _ _ c.loop-left.invariant c.loop-left-test.true c.type_function.ensures
     c.in-Refused.is)
 
@@ -35,7 +35,7 @@ loop_again c =
 
 returns_3 : tie.Need-returns invariant_loop decreases_loop
 returns_3 c =
-    right_shape _ _ _ _ _ c.main_fits.ensures (not-false _ c.if-not-main_fits.false)
+    right_shape _ _ _ _ _ c.main_fits.ensures c.if-not-main_fits.false
     _
     (repeated_none _ _ _ (omega (arith, c.loop-left-test.false)) ∙ sym c.loop-left.invariant)
 

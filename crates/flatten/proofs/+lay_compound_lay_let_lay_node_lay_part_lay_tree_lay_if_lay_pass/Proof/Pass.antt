@@ -25,25 +25,24 @@ module _ (t : ℕ) where
     high_fits : s.args.shape.high < 256
     high_fits = s.good.1.1.1.1.1.1.1.1.0.1.1.1.1.0.1
 
-  -- the loop's row is laid and its names are bound
+      -- the loop's row is laid and its names are bound
   abbrev Bound : Type 0
-  Bound = lts.After-bind-pass (lay_pass_claims t) (lay_pass_at t) lay-pass.Post
+  Bound = lts.After-bind_pass-old (lay_pass_claims t) (lay_pass_at t) lay-pass.Post
 
   abbrev start_of : Bound → Start
   start_of c = c.before.before.before.before.before.before.before.before.before
 
-  pub lay_pass_open_loop_requires : lts.Need-open-loop-requires (lay_pass_claims t) (lay_pass_at t) lay-pass.Post
+  pub lay_pass_open_loop_requires : lts.Need-open_loop-inner-requires (lay_pass_claims t) (lay_pass_at t) lay-pass.Post
   lay_pass_open_loop_requires c κs = place c.before.before.before.before.before.before
 
-  pub lay_pass_bind_pass_requires : lts.Need-bind-pass-requires (lay_pass_claims t) (lay_pass_at t) lay-pass.Post
+  pub lay_pass_bind_pass_requires : lts.Need-bind_pass-old-requires (lay_pass_claims t) (lay_pass_at t) lay-pass.Post
   lay_pass_bind_pass_requires c κs =
-      let s = c.before.before.before.before.before.before.before.before in
-      ((place s).0, s.requires.1.1.0.long)
+      let s = c.before.before.before.before.before.before.before.before in ((place s).0, s.requires.1.1.0.long)
 
-  pub lay_pass_lay_tree_requires : lts.Need-lay-tree-requires (lay_pass_claims t) (lay_pass_at t) lay-pass.Post
+  pub lay_pass_lay_tree_requires : lts.Need-lay_tree-tree-requires (lay_pass_claims t) (lay_pass_at t) lay-pass.Post
   lay_pass_lay_tree_requires c κs =
-      let bound = c.before.before.before.before.before.bind-pass.ensures in
-      let head = c.before.before.before.before.before.before.before.open_loop.ensures in
+      let bound = c.bind_pass-old.ensures in
+      let head = c.open_loop-inner.ensures in
       let s = start_of c.before.before.before.before.before in
       let a = s.args in
       rw head.0.0 (
@@ -57,30 +56,25 @@ module _ (t : ℕ) where
       )
 
   pub lay_pass_unbind_pass_requires :
-      lts.Need-unbind-pass-requires (lay_pass_claims t) (lay_pass_at t) lay-pass.Post
+      lts.Need-unbind_pass-requires (lay_pass_claims t) (lay_pass_at t) lay-pass.Post
   lay_pass_unbind_pass_requires c κs =
-      let bound = c.before.before.before.before.before.before.before in
-      ap length c.before.lay-tree.ensures.1
-      ∙ (given_bound_twice _ _ _ _ _ (start_of bound).requires.1.1.0 bound.bind-pass.ensures.0).long
+      let bound = c.before.before.before.before.before.before.before in ap length c.lay_tree-tree.ensures.1
+      ∙ (given_bound_twice _ _ _ _ _ (start_of bound).requires.1.1.0 bound.bind_pass-old.ensures.0).long
 
   pub lay_pass_depth_of_loop_requires :
-      lts.Need-depth-of-loop-requires (lay_pass_claims t) (lay_pass_at t) lay-pass.Post
+      lts.Need-depth_of_loop-depth-requires (lay_pass_claims t) (lay_pass_at t) lay-pass.Post
   lay_pass_depth_of_loop_requires c κs =
-      let laid = c.before.before.before.before in
-      let bound = laid.before.before.before.before.before.before in
-      let head = bound.before.before.open_loop.ensures in
+      let bound = c.before.before.before.before.before.before.before.before.before.before in let head = bound.open_loop-inner.ensures in
       let s = start_of bound in
       let a = s.args in
       pass_deep a.operands.now _ a.shape.kind a.shape.low a.shape.high a.atoms.now
       a.places.now s.pre.1.0 s.pre.1.1.1 head.1.0 (rw head.0.0 at head.0.1) head.1.1 _
-      s.pre.1.1.0.long (low_fits s) (high_fits s) bound.bind-pass.ensures.0
-      (rw head.0.0 at laid.lay-tree.ensures.0)
+      s.pre.1.1.0.long (low_fits s) (high_fits s) bound.bind_pass-old.ensures.0
+      (rw head.0.0 at c.lay_tree-tree.ensures.0)
 
-  pub lay_pass_close_line_requires : lts.Need-close-line-requires (lay_pass_claims t) (lay_pass_at t) lay-pass.Post
+  pub lay_pass_close_line_requires : lts.Need-close_line-requires (lay_pass_claims t) (lay_pass_at t) lay-pass.Post
   lay_pass_close_line_requires c κs =
-      let laid = c.before.before.before.before.before.before.before in
-      let bound = laid.before.before.before.before.before.before in
-      let head = bound.before.before.open_loop.ensures in
+      let bound = c.before.before.before.before.before.before.before.before.before.before.before.before.before in let head = bound.open_loop-inner.ensures in
       let s = start_of bound in
       let a = s.args in (
         omega (arith, (place s).0),
@@ -88,29 +82,27 @@ module _ (t : ℕ) where
           omega (arith, (place s).1),
           pass_end a.operands.now _ a.shape.kind a.shape.low a.shape.high a.atoms.now
               a.places.now s.pre.1.0 s.pre.1.1.1 head.1.0 (rw head.0.0 at head.0.1)
-              head.1.1 _ s.pre.1.1.0.long (low_fits s) (high_fits s) bound.bind-pass.ensures.0
-              (rw head.0.0 at laid.lay-tree.ensures.0),
+              head.1.1 _ s.pre.1.1.0.long (low_fits s) (high_fits s) bound.bind_pass-old.ensures.0
+              (rw head.0.0 at c.lay_tree-tree.ensures.0),
         ),
       )
 
   pub lay_pass_returns : lts.Need-returns (lay_pass_claims t) (lay_pass_at t) lay-pass.Post
   lay_pass_returns c =
-      let laid = c.before.before.before.before.before.before.before.before in
-      let bound = laid.before.before.before.before.before.before in
-      let tree = laid.lay-tree.ensures in
-      let names = bound.bind-pass.ensures in
-      let head = bound.before.before.open_loop.ensures in
+      let bound = c.before.before.before.before.before.before.before.before.before.before.before.before.before.before in let tree = c.lay_tree-tree.ensures in
+      let names = bound.bind_pass-old.ensures in
+      let head = bound.open_loop-inner.ensures in
       let s = start_of bound in
       let a = s.args in
       let made = rw head.0.0 at tree.0 in (
-        c.close-line.ensures.0 ∙ rw (made.next, made.count, made.reach),
+        c.close_line.ensures.0 ∙ rw (made.next, made.count, made.reach),
         (
           pass_laid a.operands.now _ a.shape.kind a.shape.low a.shape.high a.atoms.now
               a.places.now s.pre.1.0 s.pre.1.1.1 head.1.0 (rw head.0.0 at head.0.1)
               head.1.1 _ s.pre.1.1.0.long (low_fits s) (high_fits s) names.0 made _
-              c.before.before.before.depth-of-loop.ensures c.close-line.ensures.1.0
-              c.close-line.ensures.1.1,
-          c.before.before.before.before.before.before.unbind-pass.ensures ∙ rw (names.1.0, names.1.1)
+              c.depth_of_loop-depth.ensures c.close_line.ensures.1.0
+              c.close_line.ensures.1.1,
+          c.unbind_pass.ensures ∙ rw (names.1.0, names.1.1)
               (put_back_two 0 _ _ _ _ _ _ _ refl (tree.1 ∙ names.0)),
         ),
       )

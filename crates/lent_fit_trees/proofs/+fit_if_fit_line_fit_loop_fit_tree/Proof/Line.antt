@@ -12,70 +12,58 @@ module _ (t : ℕ) where
   abbrev Here : (lts.Claims → In 5 lts.ps → Out 5 lts.ps lts.r → Type 0) → Type 0
   Here P = P (fit_line_claims t) (fit_line_at t) fit_line.Post
 
-  pub fit_if_requires : Here lts.Need-fit-if-requires
+  pub fit_if_requires : Here lts.Need-fit_if-requires
   fit_if_requires c κs =
-      let start = c.before.before.before.before in
-      (omega (arith, start.requires.0), start.requires.1)
+      (omega (arith, c.requires.0), c.requires.1)
 
-  pub returns : Here lts.Need-returns
+  pub returns : Here lts.Need-returns-then-kind-eq-IF
   returns c =
-      let at-if1 = c.before.before.before in
-      let start = at-if1.before.before in
-      let a = start.args in
+      let a = c.args in
       record {
         is = line_if a.kinds.now a.operands.now a.starts.now
             (tree_fits a.kinds.now a.operands.now a.starts.now a.levels) a.kind (set_of a.t6)
-            (bound_of a.bound.now a.depths.now) a.at at-if1.if1.true
-            ∙ c.fit-if.ensures.is;
-        long = c.fit-if.ensures.long;
-        deep = c.fit-if.ensures.deep;
+            (bound_of a.bound.now a.depths.now) a.at c.if-kind-eq-IF.true
+            ∙ c.fit_if.ensures.is;
+        long = c.fit_if.ensures.long;
+        deep = c.fit_if.ensures.deep;
       }
 
-  pub fit_loop_requires : Here lts.Need-fit-loop-requires
+  pub fit_loop_requires : Here lts.Need-fit_loop-requires
   fit_loop_requires c κs =
-      let start = c.before.before.before.before.before.before in
-      (omega (arith, start.requires.0), start.requires.1)
+      (omega (arith, c.requires.0), c.requires.1)
 
-  pub returns_2 : Here lts.Need-returns-2
+  pub returns_2 : Here lts.Need-returns-then-loops
   returns_2 c =
-      let at-if2 = c.before.before.before in
-      let at-loops = at-if2.before in
-      let at-if1 = at-loops.before in
-      let start = at-if1.before.before in
-      let a = start.args in
+      let a = c.args in
       record {
         is = line_loop a.kinds.now a.operands.now a.starts.now
             (tree_fits a.kinds.now a.operands.now a.starts.now a.levels) a.kind (set_of a.t6)
-            (bound_of a.bound.now a.depths.now) a.at at-if1.if1.false
-            (sym at-loops.loops.ensures ∙ at-if2.if2.true)
-            ∙ c.fit-loop.ensures.is;
-        long = c.fit-loop.ensures.long;
-        deep = c.fit-loop.ensures.deep;
+            (bound_of a.bound.now a.depths.now) a.at c.if-kind-eq-IF.false
+            (sym c.loops.ensures ∙ c.if-loops.true)
+            ∙ c.fit_loop.ensures.is;
+        long = c.fit_loop.ensures.long;
+        deep = c.fit_loop.ensures.deep;
       }
 
-  pub fit_plain_requires : Here lts.Need-fit-plain-requires
+  pub fit_plain_requires : Here lts.Need-fit_plain-requires
   fit_plain_requires c κs =
-      let start = c.before.before.before.before.before.before.before in (
-        start.requires.1.0.cut,
-        start.requires.1.2,
-        start.requires.1.0.places,
-        start.requires.1.0.long,
-        start.requires.1.0.deep,
+      (
+        c.requires.1.0.cut,
+        c.requires.1.2,
+        c.requires.1.0.places,
+        c.requires.1.0.long,
+        c.requires.1.0.deep,
       )
 
-  pub returns_3 : Here lts.Need-returns-3
+  pub returns_3 : Here lts.Need-returns
   returns_3 c =
-      let at-if2 = c.before.before.before.before in
-      let at-loops = at-if2.before in
-      let at-if1 = at-loops.before in
-      let start = at-if1.before.before in
-      let a = start.args in
+      let a = c.args in
       record {
         is = line_plain a.kinds.now a.operands.now a.starts.now
             (tree_fits a.kinds.now a.operands.now a.starts.now a.levels) a.kind (set_of a.t6)
-            (bound_of a.bound.now a.depths.now) a.at at-if1.if1.false
-            (sym at-loops.loops.ensures ∙ at-if2.if2.false)
-            ∙ c.fit-plain.ensures.is;
-        long = c.fit-plain.ensures.long;
-        deep = c.fit-plain.ensures.deep;
+            (bound_of a.bound.now a.depths.now) a.at c.if-kind-eq-IF.false
+            (sym c.loops.ensures ∙ c.if-loops.false)
+            ∙ c.fit_plain.ensures.is;
+        long = c.fit_plain.ensures.long;
+        deep = c.fit_plain.ensures.deep;
       }

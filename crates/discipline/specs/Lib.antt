@@ -1,4 +1,0 @@
--- The modules of `discipline`'s specs.
-pub mod store
-pub mod normal
-pub mod machine

@@ -1,0 +1,9 @@
+-- The modules of `larger`'s proofs.
+pub mod Extended
+pub mod Runs
+pub mod Work
+pub mod Stores
+pub mod Deliveries
+pub mod Larger
+pub mod Histories
+pub mod Instances

@@ -1,9 +1,0 @@
--- The modules of `larger`'s specs.
-pub mod Extended
-pub mod Runs
-pub mod Work
-pub mod Stores
-pub mod Deliveries
-pub mod Larger
-pub mod Histories
-pub mod Instances

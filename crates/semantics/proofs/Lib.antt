@@ -1,0 +1,2 @@
+-- The modules of `semantics`' proofs.
+pub mod Boards
