@@ -1,5 +1,7 @@
 // The annotation: one walk of the plain code backwards, tree by tree, that writes annotated rows straight into the lent
 // arrays. `cur` holds the row of each name's last use before the present one: what a tree uses is read from it.
+#![tactic(auto)]
+
 ghost use Rattle.std.specs.Prelude.{◌≡◌, true, ◌+◌, ◌-◌, ◌<◌, ◌≤◌, length};
 ghost use Rattle.semantics.specs.Borrow.{borrows};
 ghost use Rattle.plain_rows.specs.Plain.{plain, meant};

@@ -1,4 +1,6 @@
 // The rows of lines without trees and of a tree's end, written towards the front of the lent arrays.
+#![tactic(auto)]
+
 ghost use Rattle.std.specs.Prelude.{◌≡◌, ◌&&◌, [], ◌∷◌, map, ◌+◌, ◌-◌, ◌≤◌, ltb};
 ghost use Rattle.semantics.specs.Basics.{with_if};
 ghost use Rattle.semantics.specs.Kinds.{Borrowing, leaf_kind, is_pending};

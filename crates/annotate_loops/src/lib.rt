@@ -1,4 +1,6 @@
 // The rows of loops: those after a loop, its own, and those that open its tree.
+#![tactic(auto)]
+
 ghost use Rattle.std.specs.Prelude.{◌≡◌, [], ◌∷◌, map, ◌+◌, ◌*◌, ◌≤◌};
 ghost use Rattle.semantics.specs.Kinds.{loop_kind, loop_hands, packed_names};
 ghost use Rattle.semantics.specs.Code.{row, atom_row};

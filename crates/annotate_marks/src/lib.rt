@@ -1,4 +1,6 @@
 // The rows of the names' last uses, kept up while code is walked backwards, and live sets beside them.
+#![tactic(auto)]
+
 ghost use Rattle.std.specs.Prelude.{◌≡◌, ◌+◌, ◌-◌, ◌<◌, ◌≤◌, Bool, false, List, length, set};
 ghost use Rattle.semantics.specs.Live.{◌∪◌, ◌∖◌, is, among};
 ghost use Rattle.plain_rows.specs.Plain.{meant, set_of, atoms_at};

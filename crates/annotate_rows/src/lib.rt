@@ -1,5 +1,7 @@
 // Writes annotated rows straight into the two lent arrays, towards their front.
 // A place w says that the rows from position w - 1 on are written; at place 0 a row did not fit.
+#![tactic(auto)]
+
 ghost use Rattle.std.specs.Prelude.{◌≡◌, ◌&&◌, not, [], ◌∷◌, ◌-◌, ◌<◌, ◌≤◌, ltb};
 ghost use Rattle.semantics.specs.Basics.{with_if};
 ghost use Rattle.semantics.specs.Code.{row, atom_row};

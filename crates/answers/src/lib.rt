@@ -1,4 +1,5 @@
 // The numbers of the service display, by name.
+#![tactic(auto)]
 
 // Refusals.
 pub const TRUNCATED: u8 = 1;

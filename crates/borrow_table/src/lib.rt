@@ -1,4 +1,6 @@
 // The table of borrowed parameters of a script.
+#![tactic(auto)]
+
 mod rounds;
 mod scan;
 

@@ -1,5 +1,7 @@
 // The calls on lent code: what is judged, checked or worked is told in a packed answer, and no word of the code is
 // written.
+#![tactic(auto)]
+
 ghost use Rattle.std.specs.Prelude.{◌≡◌};
 ghost use Rattle.semantics_lent.specs.Calls.{judged_code, checking, engine_deliver_code};
 ghost use Rattle.call_code.specs.Delivering.{Delivers, fault_at};

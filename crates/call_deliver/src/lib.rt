@@ -1,4 +1,6 @@
 // The store's part of a delivery: refusals 10 and 11, the delivery itself, and every word of the two lent arrays.
+#![tactic(auto)]
+
 ghost use Rattle.std.specs.Prelude.{◌≡◌};
 ghost use Rattle.semantics.specs.Calls.{request_fits};
 ghost use Rattle.machine_code.specs.Reading.{Cut};

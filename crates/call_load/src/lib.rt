@@ -1,4 +1,6 @@
 // Loading a script: refusals 1 to 9, or its code in the two lent arrays and what the machine needs beside it.
+#![tactic(auto)]
+
 ghost use Rattle.call_load.specs.Loading.{Loads, LoadsWith};
 
 use script::Verdict;

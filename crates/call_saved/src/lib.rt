@@ -1,4 +1,6 @@
 // The store's part of saving totals and of restoring them, with every lent word promised.
+#![tactic(auto)]
+
 ghost use Rattle.std.specs.Prelude.{◌≡◌, ◌≤◌};
 ghost use Rattle.call_store.specs.Left.{left, SmallAnswer};
 ghost use Rattle.call_saved.specs.Left.{restored_left, save_left, saved_left};

@@ -1,5 +1,7 @@
 // The store's part of opening and checking, with every word of the two lent arrays promised; and how the end of such a
 // part is told.
+#![tactic(auto)]
+
 ghost use Rattle.std.specs.Prelude.{◌≡◌};
 ghost use Rattle.call_store.specs.Left.{left, opened_left, checked_left, SmallAnswer};
 ghost use Rattle.call_store.specs.Told.{answer_to, Tells};

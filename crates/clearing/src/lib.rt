@@ -1,4 +1,6 @@
 // Lent arrays cleared: zeros from a place on. A place past the end clears nothing.
+#![tactic(auto)]
+
 ghost use Rattle.std.specs.Prelude.{◌≡◌, ◌++◌, ◌-◌, pos, length, take, replicate};
 
 // Zeros from a place on.

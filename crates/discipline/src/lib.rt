@@ -1,1 +1,2 @@
-// The theorems on working disciplined code are in specs/; this crate has no code.
+// The theorems on working disciplined code are in proofs/; this crate has no code.
+#![tactic(auto)]

@@ -1,5 +1,7 @@
 // The calls for C, each of which answers one packed number. Those for a script take its file and the two code arrays,
 // and translate afresh; those for lent code take it in the two code arrays, judge it afresh, and write no word of it.
+#![tactic(auto)]
+
 ghost use Rattle.semantics.specs.Calls.{engine_translate, engine_open, engine_check, engine_deliver};
 ghost use Rattle.semantics.specs.SaveCalls.{engine_save, engine_restore};
 ghost use Rattle.semantics_lent.specs.Calls.{engine_check_code, engine_deliver_code};

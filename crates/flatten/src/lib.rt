@@ -1,5 +1,7 @@
 // The A-normal form: a descent over the nodes that lays plain rows, notes and the depths of new names.
 // The table of places is changed at a let and a loop, and put back after it.
+#![tactic(auto)]
+
 mod parts;
 mod trees;
 

@@ -1,4 +1,6 @@
 // The plain code of the functions of a script: what their parameters mean, and where their trees stand.
+#![tactic(auto)]
+
 ghost use Rattle.std.specs.Prelude.{◌≡◌, ◌≤◌, length, replicate};
 ghost use Rattle.semantics.specs.File.{script};
 ghost use Rattle.script_read.specs.Told.{Parts};

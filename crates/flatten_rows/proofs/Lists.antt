@@ -47,10 +47,10 @@ firsts_more w vs j (suc i) v h =
     let f : suc (i + 1) ≡ suc i + 1 = omega arith in
     subst
     (λ (k : ℕ). placed_all w (firsts (set vs (j + suc i) v) j k)
-        ≡ placed_all w (firsts vs j (suc i)) ++ (meant (placed w v) ∷ [])) f
+    ≡ placed_all w (firsts vs j (suc i)) ++ (meant (placed w v) ∷ [])) f
     (subst
     (λ (k : ℕ). placed_all w (firsts (set vs k v) j (suc (i + 1)))
-        ≡ placed_all w (firsts vs j (suc i)) ++ (meant (placed w v) ∷ [])) e
+    ≡ placed_all w (firsts vs j (suc i)) ++ (meant (placed w v) ∷ [])) e
     (ap (λ (u : ℕ). meant (placed w u) ∷ placed_all w (firsts (set vs (j + 1 + i) v) (j + 1) (i + 1)))
     (get_or-set_other vs (j + 1 + i) j v 0 (λ g. omega arith))
     ∙ ap (λ (us : List C.Atom). meant (placed w (get_or vs j 0)) ∷ us) (firsts_more w vs (j + 1) i v (omega arith))))

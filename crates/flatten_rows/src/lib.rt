@@ -1,4 +1,6 @@
 // Lays rows of the plain code with the uses of names, and knows the depths of new names.
+#![tactic(auto)]
+
 pub mod atoms;
 
 ghost use Rattle.std.specs.Prelude.{◌≡◌, [], ◌∷◌, pred, ◌+◌, ◌*◌, ◌<◌, ◌≤◌, length, get_or, set};

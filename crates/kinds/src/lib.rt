@@ -1,4 +1,5 @@
 // The atoms of code lines; and the kinds of nodes and of code lines, by the numbers of documents 01 and 02.
+#![tactic(auto)]
 
 // An atom: a number or a name.
 #[derive(Clone, Copy)]

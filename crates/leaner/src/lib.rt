@@ -1,1 +1,2 @@
 // Laws only: of two runs, one never has more cells in use than the other.
+#![tactic(auto)]

@@ -1,4 +1,6 @@
 // What a line of lent code does to the counts of references: its atoms are handed over or read, its name holds one.
+#![tactic(auto)]
+
 ghost use Rattle.std.specs.Prelude.{◌≡◌, [], ◌∷◌, ◌<◌, length, get_or};
 ghost use Rattle.semantics.specs.Annotate.{is_array};
 ghost use Rattle.semantics_lent.specs.Hold.{hold_also, spend, readable};

@@ -1,4 +1,6 @@
 // How many references each name holds, by value: the counts of the third walk over lent code.
+#![tactic(auto)]
+
 ghost use Rattle.std.specs.Prelude.{◌≡◌, ◌&&◌, length};
 ghost use Rattle.semantics_lent.specs.Hold.{same_holds, none_bound};
 ghost use Rattle.lent_counts.specs.Counted.{counted, set_of, kept_out};

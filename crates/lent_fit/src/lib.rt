@@ -1,4 +1,6 @@
 // The depths and scopes of lent code, the second of the checker's three walks: functions and the whole code.
+#![tactic(auto)]
+
 ghost use Rattle.std.specs.Prelude.{◌≡◌, ◌+◌, ◌*◌, ◌≤◌, ◌<◌, length, replicate};
 ghost use Rattle.semantics_lent.specs.Fit.{is_main};
 ghost use Rattle.machine_code.specs.Reading.{Cut};

@@ -1,6 +1,8 @@
 // The depths and scopes of lent code, the second of the checker's three walks: lines without trees, and what is tested
 // before a line's trees. One table has the depths of a function's names and another says which are bound; a third, of
 // each tree, which may be used. Rows of any content are read; the form was accepted before.
+#![tactic(auto)]
+
 pub mod opening;
 
 ghost use Rattle.std.specs.Prelude.{◌≡◌, false, not, ◌+◌, ◌≤◌, ◌<◌, length, get_or, take};

@@ -1,4 +1,6 @@
 // The depths and scopes of lent code, the second of the checker's three walks: trees, and lines with their trees.
+#![tactic(auto)]
+
 ghost use Rattle.std.specs.Prelude.{◌≡◌, ◌<◌, length};
 ghost use Rattle.lent_fit_lines.specs.Walk.{set_of, bound_of, Lines};
 ghost use Rattle.lent_fit_trees.specs.Trees.{Trees, Ready, if_fits, loop_fits, line_fits, tree_fits};

@@ -1,5 +1,7 @@
 // The form of lent code, the first of the checker's three walks: kinds, operands, numbers of atoms and nesting.
 // The arrays are cut to the lines that are looked at, and `over` says whether the code goes on past them.
+#![tactic(auto)]
+
 mod reading;
 
 ghost use Rattle.std.specs.Prelude.{◌≡◌, ◌||◌, ◌+◌, ◌<◌, min, max, eqb, ltb, length};

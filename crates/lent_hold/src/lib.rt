@@ -1,4 +1,6 @@
 // The holds of lent code, the third of the checker's walks: each function's tree, by the table of borrowed parameters.
+#![tactic(auto)]
+
 ghost use Rattle.std.specs.Prelude.{◌≡◌, true, not, ◌+◌, ◌<◌, ◌≤◌, length};
 ghost use Rattle.semantics.specs.Kinds.{picked};
 ghost use Rattle.semantics.specs.Borrow.{borrows};

@@ -1,5 +1,7 @@
 // The lines of lent code that have no tree, by the rule for holds: the third of the checker's walks. A line hands some
 // of its atoms over, reads the others, and then its name holds one; its counts are those of all names of a function.
+#![tactic(auto)]
+
 mod atoms;
 
 ghost use Rattle.std.specs.Prelude.{◌≡◌, true, false, [], ◌∷◌, ◌+◌, ◌<◌, length};

@@ -1,5 +1,7 @@
 // The trees of lent code by the rule for holds, the third of the checker's walks: down the lines of a tree, and into
 // the trees of its lines. Form, depths and scope are right already.
+#![tactic(auto)]
+
 ghost use Rattle.std.specs.Prelude.{◌≡◌, [], ◌∷◌, ◌+◌, ◌<◌, length};
 ghost use Rattle.semantics.specs.Kinds.{loop_hands, element_name, carried_name};
 ghost use Rattle.semantics.specs.Borrow.{borrows};

@@ -1,4 +1,6 @@
 // Lent code judged: form, then depth and scope, then holds, each over the whole code before the next.
+#![tactic(auto)]
+
 ghost use Rattle.std.specs.Prelude.{◌≤◌, length};
 ghost use Rattle.lent_judge.specs.Judging.{JudgesCode};
 

@@ -1,5 +1,7 @@
 // The names that rows of lent code spend or retain, by a table of borrowed parameters: atoms that are handed over, and
 // names that are retained or released.
+#![tactic(auto)]
+
 ghost use Rattle.std.specs.Prelude.{◌≡◌, ◌-◌, ◌≤◌, length};
 ghost use Rattle.semantics.specs.Borrow.{borrows};
 ghost use Rattle.lent_spent.specs.Scan.{set_of, second_at, is_handed, is_named, spent_from};

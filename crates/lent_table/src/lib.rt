@@ -1,5 +1,7 @@
 // The table of borrowed parameters of lent code, reworked until a round changes nothing. A parameter is owned if its
 // function spends or retains it, or hands it over at an owned place.
+#![tactic(auto)]
+
 ghost use Rattle.std.specs.Prelude.{◌≡◌, not, ◌&&◌, ◌<◌, ◌≤◌, min, eqb, length};
 ghost use Rattle.semantics.specs.Basics.{tabulate};
 ghost use Rattle.semantics.specs.Borrow.{borrows, same, same_table};

@@ -1,6 +1,8 @@
 // The machine: workers for a tree, a line and the passes of a loop that call each other. What falls is the steps left,
 // and where no step is taken the lines left. `calls` is the call depth left. The code's slices are cut to its lines,
 // and lent by a reference to each: a frame then has no copy of them.
+#![tactic(auto)]
+
 ghost use Rattle.std.specs.Prelude.{◌≡◌, ◌<◌, length};
 ghost use Rattle.semantics.specs.Words.{store_of};
 ghost use Rattle.machine_frames.specs.Frames.{frame_words};

@@ -1,5 +1,7 @@
 // Reading the code: atoms, lines, and the table of a script's functions and of the positions after its trees.
 // What stands past the end of an array is 0. Lines and atoms are read from arrays that are cut to the code's lines.
+#![tactic(auto)]
+
 ghost use Rattle.std.specs.Prelude.{◌≡◌, ◌+◌, ◌-◌, ◌*◌, ◌<◌, pos, length, get_or};
 ghost use Rattle.machine_code.specs.Reading.{low_bits, Cut, name_at, atom_at, line_at, is_atom, two_rows};
 ghost use Rattle.machine_code.specs.Reading.{depth_in, start_in, end_in};

@@ -1,5 +1,7 @@
 // A delivery on the code of a script, cut to its lines, and a store: the readings' cell, main, the result in the
 // totals' place; and after a stop the old store, linked anew.
+#![tactic(auto)]
+
 ghost use Rattle.std.specs.Prelude.{◌≡◌, true, ℕ, ◌<◌, ◌≤◌, pos, length};
 ghost use Rattle.semantics.specs.Words.{store_of, shaped};
 ghost use Rattle.machine_code.specs.Reading.{Cut};

@@ -1,6 +1,8 @@
 // The frames and how work ends. The frames are one array: 256 words for each call in progress, main's last, a word for
 // each with the number of its function, and two words for levels: how many cells are free, and the least number that
 // was. `calls` is the call depth left, 31 in main.
+#![tactic(auto)]
+
 pub mod guards;
 
 ghost use Rattle.std.specs.Prelude.{◌≡◌, ◌+◌, ◌-◌, ◌≤◌, ◌<◌, pos, length, set};

@@ -1,1 +1,2 @@
 // Laws only: the machine over positions is the machine of the definitions.
+#![tactic(auto)]

@@ -1,5 +1,7 @@
 // The lines that work no tree, on a memory of two store arrays and the array of frames. `calls` is the call depth left,
 // 31 in main.
+#![tactic(auto)]
+
 mod arrays;
 
 ghost use Rattle.std.specs.Prelude.{◌≡◌, ◌<◌, length};

@@ -1,5 +1,7 @@
 // The parts of a loop outside its tree: what it begins with, what a pass begins with, what a pass carries on to the
 // next, and what it ends with. A map, a filter and a reduce differ in nothing else.
+#![tactic(auto)]
+
 ghost use Rattle.std.specs.Prelude.{◌≡◌, map, ◌+◌, ◌<◌, pos, get_or, length};
 ghost use Rattle.semantics.specs.Store.{cell, cell_of, elements};
 ghost use Rattle.semantics.specs.Words.{store_of};

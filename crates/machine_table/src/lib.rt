@@ -1,4 +1,6 @@
 // The positions behind the depths of the table: where the functions begin, and where the tree at each row ends.
+#![tactic(auto)]
+
 ghost use Rattle.std.specs.Prelude.{◌≡◌, ◌+◌, ◌≤◌, ◌<◌, length, set};
 ghost use Rattle.machine_table.specs.Positions.{with_position, trees_of, ends_from, end_of};
 ghost use Rattle.machine_table.specs.Positions.{position_of, starts_from, filled};

@@ -1,5 +1,7 @@
 // Plain code: the A-normal form before its annotation, packed in one array of rows with notes beside it.
 // Sets of names by value.
+#![tactic(auto)]
+
 ghost use Rattle.std.specs.Prelude.{◌≡◌, true, false, ◌||◌, ◌+◌, ◌*◌, ◌<◌, length, get_or, set};
 ghost use Rattle.semantics.specs.Live.{◌∪◌, ◌∖◌, is, only, empty};
 ghost use Rattle.semantics.specs.Borrow.{borrows};

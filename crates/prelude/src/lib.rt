@@ -1,1 +1,2 @@
 // The kit's names that proofs use are in specs/; this crate has no code.
+#![tactic(auto)]

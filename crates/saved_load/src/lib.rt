@@ -1,5 +1,7 @@
 // A value loaded from a saved file into a store: the entries are read in order, and an array's cell is acquired before
 // those of its elements.
+#![tactic(auto)]
+
 ghost use Rattle.std.specs.Prelude.{◌≡◌, ◌+◌, ◌≤◌, ◌<◌};
 ghost use Rattle.semantics.specs.Words.{store_of};
 ghost use Rattle.saved_load.specs.Entries.{Ended, Filled, place, fill, elements_at, load_at};

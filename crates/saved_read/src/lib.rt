@@ -1,4 +1,6 @@
 // A saved file tested for its form, entry by entry: nothing is made of it.
+#![tactic(auto)]
+
 ghost use Rattle.std.specs.Prelude.{◌≡◌, ◌≤◌, get_or};
 ghost use Rattle.semantics.specs.Outcome.{times};
 ghost use Rattle.semantics.specs.Saved.{value_at};

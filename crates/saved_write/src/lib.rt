@@ -1,4 +1,6 @@
 // The totals of a store written to a saved file: the entries are counted, then marks and numbers are written.
+#![tactic(auto)]
+
 ghost use Rattle.std.specs.Prelude.{◌≡◌, ◌+◌, ◌≤◌, min, length, set};
 ghost use Rattle.std.proofs.lemmas.List.Edits.{sets};
 ghost use Rattle.semantics.specs.Words.{store_of};

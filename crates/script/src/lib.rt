@@ -1,4 +1,6 @@
 // The reader and checker: a script file is accepted, or refused with a number from 1 to 8 and a node.
+#![tactic(auto)]
+
 ghost use Rattle.std.specs.Prelude.{◌≡◌, ◌+◌, length};
 ghost use Rattle.semantics.specs.File.{script, read_file};
 ghost use Rattle.script_read.specs.Starts.{Started_by};

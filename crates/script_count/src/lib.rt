@@ -1,4 +1,6 @@
 // Refusal 8: the first function with over 256 new names, in one pass over the kinds.
+#![tactic(auto)]
+
 ghost use Rattle.std.specs.Prelude.{◌≡◌, ◌+◌, ◌<◌, length, get_or};
 ghost use Rattle.script_count.specs.Count.{new_names, crowd_ends, start_after, counted_on, crowd};
 ghost use Rattle.script_count.specs.Count.{counted_outcome, crowd_outcome};

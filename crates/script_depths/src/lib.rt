@@ -1,6 +1,8 @@
 // Refusals 6 and 7 of a part: its depth, or a node that breaks one of the rules.
 // One table of the depths of the 256 names is changed at a let or a loop and put back after it; a name that is not
 // known has the entry UNKNOWN, which is no depth.
+#![tactic(auto)]
+
 ghost use Rattle.std.specs.Prelude.{◌≡◌, ◌+◌, ◌<◌, ◌≤◌, length, get_or};
 ghost use Rattle.semantics.specs.File.{low_limits, high_limits};
 ghost use Rattle.script_depths.specs.Walk.{depths, let_typed, start_typed, loop_ended, loop_typed, known_plain};

@@ -1,5 +1,7 @@
 // Refusal 6: a node that names nothing known, or a parameter name that is repeated.
 // One table of the 256 names is changed at a binding and put back after it.
+#![tactic(auto)]
+
 ghost use Rattle.std.specs.Prelude.{◌≡◌, ◌+◌, ◌<◌, length};
 ghost use Rattle.script_read.specs.Told.{repeated};
 ghost use Rattle.script_names.specs.Walk.{scope, binds, calls_none, names, then_bound, names_from};

@@ -1,4 +1,6 @@
 // The reader: the nodes of a script file in prefix order, refusals 1 to 5.
+#![tactic(auto)]
+
 mod passing;
 
 ghost use Rattle.std.specs.Prelude.{◌≡◌, false, ◌&&◌, ◌+◌, ◌/◌, ◌%◌, ◌≤◌, length, get_or};

@@ -1,4 +1,6 @@
 // The rules of depths: what a node has by the depths of its parts, if it breaks no rule.
+#![tactic(auto)]
+
 ghost use Rattle.std.specs.Prelude.{◌≡◌, [], ◌∷◌, ◌≤◌, length, get_or, take};
 ghost use Rattle.semantics.specs.File.{low_limits, high_limits, part_count};
 ghost use Rattle.semantics.specs.Types.{all_are, same, some_if, index_rule, length_rule, replicate_rule, if_rule};

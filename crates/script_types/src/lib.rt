@@ -1,4 +1,6 @@
 // Refusals 6 and 7 over a whole script: main's shape, and each function's parameters, body and result.
+#![tactic(auto)]
+
 ghost use Rattle.std.specs.Prelude.{◌≡◌, ◌+◌, ◌<◌, length};
 ghost use Rattle.semantics.specs.Types.{main_shape};
 ghost use Rattle.script_rules.specs.Rules.{signature_at};

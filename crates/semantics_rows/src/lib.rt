@@ -1,1 +1,2 @@
 // Computed rows of the definitions are in specs/; this crate has no code.
+#![tactic(auto)]

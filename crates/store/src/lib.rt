@@ -1,5 +1,7 @@
 // The operations of the counted store on the two arrays that a caller lends, but for the release. Every public
 // function is total: it works on arrays of any length and content, and a cell that is not there takes no write.
+#![tactic(auto)]
+
 ghost use Rattle.std.specs.Prelude.{◌≡◌, ◌+◌, ◌-◌, ◌*◌, ◌<◌, [], length, eqb};
 ghost use Rattle.semantics.specs.Store.{cell, retained, acquired, appended, overwritten};
 ghost use Rattle.semantics.specs.Words.{store_of};

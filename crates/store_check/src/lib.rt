@@ -1,6 +1,8 @@
 // The test of a lent store, document 01's number 11. It goes once over all slots and gathers how many places name each
 // cell; then it follows the free list, and compares cell by cell. It ends on anything: the free list is followed for as
 // many steps as there are cells, and a name out of range is counted nowhere.
+#![tactic(auto)]
+
 ghost use Rattle.std.specs.Prelude.{◌≡◌, ◌+◌, ◌*◌, ◌<◌, ◌≤◌, length, get_or};
 ghost use Rattle.semantics.specs.Basics.{all};
 ghost use Rattle.semantics.specs.Store.{cell};

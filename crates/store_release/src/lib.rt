@@ -1,5 +1,7 @@
 // The release of a cell of the counted store on the two arrays that a caller lends. It is total: it works on arrays of
 // any length and content, and a cell that is not there takes no write.
+#![tactic(auto)]
+
 ghost use Rattle.std.specs.Prelude.{◌≡◌, ◌+◌, ◌*◌, ◌<◌, length};
 ghost use Rattle.semantics.specs.Store.{freed};
 ghost use Rattle.semantics.specs.Words.{slots_at, store_of};

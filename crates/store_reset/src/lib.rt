@@ -1,4 +1,6 @@
 // Setting a whole store: opening it, saving its words, and putting them back after a stop.
+#![tactic(auto)]
+
 ghost use Rattle.std.specs.Prelude.{◌≡◌, ◌+◌, ◌*◌, ◌<◌, ◌≤◌, pos, length, get_or};
 ghost use Rattle.semantics.specs.Store.{cell, with_cell, relinked, zeroed, opened};
 ghost use Rattle.semantics.specs.Words.{cells_in, store_of};

@@ -1,6 +1,8 @@
 // The words of a store: reading the two arrays that a caller lends, `slots`, the totals first, and `heads`, the first
 // free cell first, and writing the words of one cell. The readers are total: they work on arrays of any length and
 // content, and a cell that is not there reads as a clear one.
+#![tactic(auto)]
+
 ghost use Rattle.std.specs.Prelude.{◌≡◌, ◌+◌, ◌*◌, ◌<◌, ◌≤◌, pos, length, set, get_or};
 ghost use Rattle.semantics.specs.Store.{cell, cell_of, elements, one_if_used, cells_taken, free_cells};
 ghost use Rattle.semantics.specs.Words.{store_of, shaped};

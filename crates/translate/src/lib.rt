@@ -1,4 +1,6 @@
 // The translation of an accepted script: its code at the front of two lent arrays, and zeros past it.
+#![tactic(auto)]
+
 ghost use Rattle.std.specs.Prelude.{◌≡◌, ◌++◌, ◌+◌, ◌-◌, ◌≤◌, pos, length, take, drop, replicate};
 ghost use Rattle.semantics.specs.File.{script};
 ghost use Rattle.semantics.specs.Calls.{room};

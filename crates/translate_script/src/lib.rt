@@ -1,4 +1,6 @@
 // The code of a script, written backwards from its last function to its first, and the depths of its names.
+#![tactic(auto)]
+
 ghost use Rattle.std.specs.Prelude.{◌≡◌, ◌+◌, ◌*◌, ◌<◌, ◌≤◌, length, get_or, replicate};
 ghost use Rattle.semantics.specs.File.{script};
 ghost use Rattle.semantics.specs.Annotate.{parameter_rows};

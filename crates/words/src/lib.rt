@@ -1,4 +1,6 @@
 // Numbers: the smaller of two, exact sums and differences, numbers in bytes, and the packed answer of a call.
+#![tactic(auto)]
+
 ghost use Rattle.std.specs.Prelude.{◌≡◌, ◌+◌, ◌*◌, ◌^◌, ◌<◌, ◌≤◌, ◌%◌, min, length, get_or};
 ghost use Rattle.semantics.specs.Number.{exact, sum, difference, less, bytes_at, signed};
 ghost use Rattle.semantics.specs.Calls.{packed};

@@ -25,8 +25,8 @@ mod If
 mod Loop
 mod Tree
 
-pub +walk-if-walk-loop-walk-tree-spec : {M : Type 1} → statement M
-+walk-if-walk-loop-walk-tree-spec =
+pub +walk_if_walk_loop_walk_tree_spec : {M : Type 1} → statement M
++walk_if_walk_loop_walk_tree_spec =
     close μ_walk_if μ_walk_loop μ_walk_tree
     (λ t. walk-if-lts.spec (walk_if_claims t) (walk_if_at t) walk-if.Post (λ c κs. search rules)
     (of-if.walk_tree_requires t) (of-if.add_put_used t) (of-if.put_used_requires t)

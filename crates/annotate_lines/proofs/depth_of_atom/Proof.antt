@@ -3,9 +3,9 @@ use Rattle.prelude.specs.Kit.{rules}
 use Rattle.annotate_lines.proofs.depth_of_atom.Statement.{statement}
 use Rattle.annotate_lines.proofs.depth_of_atom.Tie as tie
 
-returns_2 : tie.Need-returns-2
+returns_2 : tie.Need-returns-in-Name
 returns_2 c =
-    rw c.before.before.a.given.1 c.depth_at.ensures
+    rw c.in-Name.is c.depth_at.ensures
 
 pub depth_of_atom_spec : {M : Type 1} → statement M
 depth_of_atom_spec =

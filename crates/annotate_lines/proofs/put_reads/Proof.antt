@@ -7,24 +7,24 @@ use Rattle.annotate_lines.proofs.Leaves.{second_flat, all_read}
 use Rattle.annotate_lines.proofs.put_reads.Statement.{statement}
 use Rattle.annotate_lines.proofs.put_reads.Tie as tie
 
-returns : tie.Need-returns
+returns : tie.Need-returns-then-d-eq0
 returns c =
-    let at-if1 = c.before.before.before.before.before.before.if1 in
-    let at-depth-of-atom = c.before.before.before.before.before.before.before.depth-of-atom in
-    let a = c.before.before.before.before.before.before.before.before.before.args in
+    let at-if1 = c.if-d-eq0 in
+    let at-depth-of-atom = c.depth_of_atom-d in
+    let a = c.args in
     wrote_as (ap (λ (l : List ℕ). release_rows l) (second_flat (depth_in a.depths.now) a.x (meant a.a)
-    (meant a.b) _ (set_of a.live.now) at-depth-of-atom.ensures at-if1.true)) c.before.before.before.release-both.ensures
+    (meant a.b) _ (set_of a.live.now) at-depth-of-atom.ensures at-if1.true)) c.release_both.ensures
 
-returns_2 : tie.Need-returns-2
+returns_2 : tie.Need-returns
 returns_2 c =
-    let at-add2 = c.before.before.before.before.before.before.before.add2 in
-    let at-add = c.before.before.before.before.before.before.before.before.add in
-    let at_with = c.before.before.before.before.before.before.before.before.before.with in
-    let at_none = c.before.before.before.before.before.before.before.before.before.before.none in
-    let a = c.before.before.before.before.before.before.before.before.before.before.before.before.before.before.args in
+    let at-add2 = c.add-used in
+    let at-add = c.add-two in
+    let at_with = c.with-one in
+    let at_none = c.none-none in
+    let a = c.args in
     wrote_as (ap (λ (l : List ℕ). release_rows l) (all_read (depth_in a.depths.now) a.x (meant a.a)
     (meant a.b) (set_of a.live.now) _ _ _ _ at_none.ensures at_with.ensures at-add.ensures
-    at-add2.ensures)) c.before.before.before.put-releases.ensures
+    at-add2.ensures)) c.put_releases.ensures
 
 pub put_reads_spec : {M : Type 1} → statement M
 put_reads_spec =

@@ -6,13 +6,13 @@ use Rattle.prelude.specs.Kit.{rules}
 use Rattle.annotate_lines.proofs.retain_indexed.Statement.{statement}
 use Rattle.annotate_lines.proofs.retain_indexed.Tie as tie
 
-returns : tie.Need-returns
+returns : tie.Need-returns-then-kind-eq-INDEX
 returns c =
-    rw c.before.before.before.before.before.before.if1.true c.before.before.before.put-retain.ensures
+    rw c.if-kind-eq-INDEX.true c.put_retain.ensures
 
-returns_2 : tie.Need-returns-2
+returns_2 : tie.Need-returns
 returns_2 c =
-    let a = c.before.before.args in wrote_as (no_pending (depth_in a.depths.now) a.kind a.x c.if1.false) wrote_none
+    let a = c.args in wrote_as (no_pending (depth_in a.depths.now) a.kind a.x c.if-kind-eq-INDEX.false) wrote_none
 
 pub retain_indexed_spec : {M : Type 1} → statement M
 retain_indexed_spec =

@@ -14,7 +14,7 @@ returns c = (misshapen _ _ _ _ (failed c.lengths_fit.ensures (ap not c.if-not-le
 returns_2 : tie.Need-returns-then-not-is_readable
 returns_2 c = (
   mislabelled _ _ _ _ (passed c.lengths_fit.ensures (ap not c.if-not-lengths_fit.false))
-      (failed c.is_readable.ensures c.if-not-is_readable.true),
+      (failed c.is_readable.ensures (ap not c.if-not-is_readable.true)),
   tt,
 )
 

@@ -23,7 +23,7 @@ returns_2 c =
     let wrote = c.write_totals in (
       no_room a.depth a.slots.now a.heads.now a.saved.now
           (passed c.is_sound.ensures (ap not c.if-not-is_sound.false)) wrote.result wrote.new.saved wrote.ensures
-          (not-true wrote.result c.if-not-write_totals.true),
+          c.if-not-write_totals.true,
       tt,
     )
 
@@ -34,7 +34,7 @@ returns_3 c =
     let taken = c.cells_taken in (
       saves a.depth a.slots.now a.heads.now a.saved.now
           (passed c.is_sound.ensures (ap not c.if-not-is_sound.false)) wrote.result wrote.new.saved wrote.ensures
-          (not-false wrote.result c.if-not-write_totals.false) taken.result taken.ensures,
+          c.if-not-write_totals.false taken.result taken.ensures,
       (omega arith, omega arith, rw taken.ensures (taken_few a.slots.now a.heads.now)),
     )
 

@@ -34,13 +34,12 @@ returns_2 c =
     }
 
 leaf_depth_requires : tie.Need-leaf_depth-requires
-leaf_depth_requires c κs =
-    (
-      c.requires.2,
-      c.gather.ensures.long,
-      omega (arith, c.if-n-gt16.false),
-      c.atoms_of-n.ensures,
-    )
+leaf_depth_requires c κs = (
+  c.requires.2,
+  c.gather.ensures.long,
+  omega (arith, c.if-n-gt16.false),
+  c.atoms_of-n.ensures,
+)
 
 bind_new_requires : tie.Need-bind_new-requires
 bind_new_requires c κs =

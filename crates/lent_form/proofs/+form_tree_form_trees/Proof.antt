@@ -153,8 +153,8 @@ module _ (t : ℕ) where
       let a = c.args in
       walk_past a.kinds.now a.operands.now c.requires.1.lined.even a.over a.levels a.at _
       c.loop-p.invariant (omega (arith, c.loop-p-test.false))
-
   -- what is to be shown at a point of `form_trees`
+
 module _ (t : ℕ) where
   abbrev Trees : (form-trees-lts.Claims → In 3 form-trees-lts.ps → Out 3 form-trees-lts.ps form-trees-lts.r → Type 0) →
       Type 0

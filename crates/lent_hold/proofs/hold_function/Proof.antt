@@ -8,13 +8,13 @@ use Rattle.lent_hold.proofs.Functions.{function_said, function_near}
 use Rattle.lent_hold.proofs.hold_function.Statement.{statement}
 use Rattle.lent_hold.proofs.hold_function.Tie as tie
 
-walk_tree_requires : tie.Need-walk-tree-requires
+walk_tree_requires : tie.Need-walk_tree-requires
 walk_tree_requires c κs =
-    let a = c.before.before.before.before.before.before.before.before.args in
-    let q = c.before.before.before.before.before.before.before.before.requires in
-    let name_at = c.before.before.before.before.before.name_at in
-    let lent-first = c.before.before.before.before.lent-first in
-    let held_first = c.before.before.before.held_first in (
+    let a = c.args in
+    let q = c.requires in
+    let name_at = c.name_at-count in
+    let lent-first = c.lent_first-lent in
+    let held_first = c.held_first-holds in (
       length-replicate {A = ℕ} 256 0,
       (
         record { cut = q.1.0; few = q.1.1; names = lent-first.ensures.1 },
@@ -24,19 +24,19 @@ walk_tree_requires c κs =
 
 returns : tie.Need-returns
 returns c =
-    let name_at = c.before.before.before.before.before.before.name_at in
-    let a = c.before.before.before.before.before.before.before.before.before.args in
-    let q = c.before.before.before.before.before.before.before.before.before.requires in
+    let name_at = c.name_at-count in
+    let a = c.args in
+    let q = c.requires in
     let n = name_at.result in
-    let k = c.before.before.before.before.held_first in
-    let lent-first = c.before.before.before.before.before.lent-first in (
+    let k = c.held_first-holds in
+    let lent-first = c.lent_first-lent in (
       function_said a.kinds.now a.operands.now (borrows a.borrowed.now)
           (depths a.table.now a.f) a.f a.at n name_at.ensures (set_of lent-first.result)
-          lent-first.ensures.0 (counted k.result) k.ensures.0 c.walk-tree.ensures,
+          lent-first.ensures.0 (counted k.result) k.ensures.0 c.walk_tree.ensures,
       function_near
           a.kinds.now a.operands.now (borrows a.borrowed.now) (depths a.table.now a.f) a.f
           a.at n (set_of lent-first.result) k.result q.1.1
-          (within (a.at + (1 + n)) k.result k.ensures.1 (omega arith)) c.walk-tree.ensures,
+          (within (a.at + (1 + n)) k.result k.ensures.1 (omega arith)) c.walk_tree.ensures,
     )
 
 pub hold_function_spec : {M : Type 1} → statement M

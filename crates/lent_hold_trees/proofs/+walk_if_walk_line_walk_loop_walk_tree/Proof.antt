@@ -28,8 +28,8 @@ mod Line
 mod Loop
 mod Tree
 
-pub +walk-if-walk-line-walk-loop-walk-tree-spec : {M : Type 1} → statement M
-+walk-if-walk-line-walk-loop-walk-tree-spec =
+pub +walk_if_walk_line_walk_loop_walk_tree_spec : {M : Type 1} → statement M
++walk_if_walk_line_walk_loop_walk_tree_spec =
     close μ_walk_if μ_walk_line μ_walk_loop μ_walk_tree
     (λ t. walk-if-lts.spec (walk_if_claims t) (walk_if_at t) walk-if.Post (of-if.add_walk_tree t)
     (of-if.walk_tree_requires t) (of-if.returns t) (of-if.walk_tree_requires_2 t) (of-if.returns_2 t)

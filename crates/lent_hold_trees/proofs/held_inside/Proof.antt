@@ -8,17 +8,17 @@ use Rattle.lent_hold_trees.proofs.held_inside.Tie as tie
 
 gain_requires : tie.Need-gain-requires
 gain_requires c κs =
-    let b = c.before.before.before.before.before.requires in
-    (b.1.long, omega (arith, b.0, b.1.below c.before.before.l.given.0.0))
+    let b = c.requires in
+    (b.1.long, omega (arith, b.0, b.1.below c.in-Reduce.p))
 
-returns : tie.Need-returns
-returns c = (rw c.before.before.before.l.given.1 c.gain.ensures.0, c.gain.ensures.1)
+returns : tie.Need-returns-in-Reduce
+returns c = (rw c.in-Reduce.is c.gain.ensures.0, c.gain.ensures.1)
 
-returns_2 : tie.Need-returns-2
+returns_2 : tie.Need-returns-in_default
 returns_2 c =
-    let a = c.before.before.args in (
-      carried_none (depths a.table.now a.f) a.l (counted a.outer) c.match.keys2,
-      c.before.before.requires.1.long,
+    let a = c.args in (
+      carried_none (depths a.table.now a.f) a.l (counted a.outer) c.in_default.in_default-own.keys2,
+      c.requires.1.long,
     )
 
 pub held_inside_spec : {M : Type 1} → statement M

@@ -5,29 +5,29 @@ use Rattle.lent_hold_trees.proofs.Loops.{lends_number, lends_not, lends_array}
 use Rattle.lent_hold_trees.proofs.lent_inside.Statement.{statement}
 use Rattle.lent_hold_trees.proofs.lent_inside.Tie as tie
 
-returns : tie.Need-returns
+returns : tie.Need-returns-then-is_array
 returns c =
-    let a = c.before.before.before.before.before.before.before.args in (
-      rw c.before.before.before.a.given.1 (lends_array (depths a.table.now a.f) a.lent.now _
-          (sym c.before.is_array.ensures ∙ c.if1.true)
-          (omega (arith, c.before.before.before.before.before.before.before.requires))),
+    let a = c.args in (
+      rw c.in-Name.is (lends_array (depths a.table.now a.f) a.lent.now _
+          (sym c.is_array.ensures ∙ c.if-is_array.true)
+          (omega (arith, c.requires))),
       simp length-set
-          c.before.before.before.before.before.before.before.requires,
+          c.requires,
     )
 
-returns_2 : tie.Need-returns-2
+returns_2 : tie.Need-returns-else-is_array
 returns_2 c =
-    let a = c.before.before.before.before.before.before.before.args in (
-      rw c.before.before.before.a.given.1 (lends_not (depths a.table.now a.f) a.lent.now _
-          (sym c.before.is_array.ensures ∙ c.if1.false)),
-      c.before.before.before.before.before.before.before.requires,
+    let a = c.args in (
+      rw c.in-Name.is (lends_not (depths a.table.now a.f) a.lent.now _
+          (sym c.is_array.ensures ∙ c.if-is_array.false)),
+      c.requires,
     )
 
-returns_3 : tie.Need-returns-3
+returns_3 : tie.Need-returns-in_default
 returns_3 c =
-    let a = c.before.before.before.before.args in (
-      rw c.enum_told.given.1 (lends_number (depths a.table.now a.f) a.lent.now _),
-      c.before.before.before.before.requires,
+    let a = c.args in (
+      rw c.in_default.is (lends_number (depths a.table.now a.f) a.lent.now _),
+      c.requires,
     )
 
 pub lent_inside_spec : {M : Type 1} → statement M

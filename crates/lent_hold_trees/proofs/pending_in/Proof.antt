@@ -3,17 +3,17 @@ use Rattle.prelude.specs.Kit.{◌-◌, rules}
 use Rattle.lent_hold_trees.proofs.pending_in.Statement.{statement}
 use Rattle.lent_hold_trees.proofs.pending_in.Tie as tie
 
-returns : tie.Need-returns
-returns c = rw c.before.before.l.given.1 c.pending.ensures
+returns : tie.Need-returns-in-Map
+returns c = rw c.in-Map.is c.pending.ensures
 
-returns_2 : tie.Need-returns-2
-returns_2 c = rw c.before.before.l2.given.1 c.pending2.ensures
+returns_2 : tie.Need-returns-in-Filter
+returns_2 c = rw c.in-Filter.is c.pending-in-Filter.ensures
 
-returns_3 : tie.Need-returns-3
-returns_3 c = rw c.before.before.l3.given.1 c.pending3.ensures
+returns_3 : tie.Need-returns-in-Reduce
+returns_3 c = rw c.in-Reduce.is c.pending-in-Reduce.ensures
 
-returns_4 : tie.Need-returns-4
-returns_4 c = rw c.before.before.l4.given.1 c.pending4.ensures
+returns_4 : tie.Need-returns-in-Rewrite
+returns_4 c = rw c.in-Rewrite.is c.pending-in-Rewrite.ensures
 
 pub pending_in_spec : {M : Type 1} → statement M
 pending_in_spec =

@@ -3,17 +3,17 @@ use Rattle.prelude.specs.Kit.{◌-◌, arith, rules}
 use Rattle.lent_hold_trees.proofs.rows_before.Statement.{statement}
 use Rattle.lent_hold_trees.proofs.rows_before.Tie as tie
 
-returns : tie.Need-returns
-returns c = rw c.enum_told.given.1 (omega arith, omega arith)
+returns : tie.Need-returns-in-Map
+returns c = rw c.in-Map.is (omega arith, omega arith)
 
-returns_2 : tie.Need-returns-2
-returns_2 c = rw c.enum-told2.given.1 (omega arith, omega arith)
+returns_2 : tie.Need-returns-in-Filter
+returns_2 c = rw c.in-Filter.is (omega arith, omega arith)
 
-returns_3 : tie.Need-returns-3
-returns_3 c = rw c.enum-told3.given.1 (omega arith, omega arith)
+returns_3 : tie.Need-returns-in-Reduce
+returns_3 c = rw c.in-Reduce.is (omega arith, omega arith)
 
-returns_4 : tie.Need-returns-4
-returns_4 c = rw c.enum-told4.given.1 (omega arith, omega arith)
+returns_4 : tie.Need-returns-in-Rewrite
+returns_4 c = rw c.in-Rewrite.is (omega arith, omega arith)
 
 pub rows_before_spec : {M : Type 1} → statement M
 rows_before_spec =

@@ -31,11 +31,10 @@ returns_3 : tie.Need-returns-then-i-count invariant_loop decreases_loop
 returns_3 c = copied_all c.loop-i.invariant c.if-i-count.true
 
 atom_within_requires : tie.Need-atom_within-a-requires invariant_loop decreases_loop
-atom_within_requires c κs =
-    (
-      omega (arith, c.if-i-count.false, c.loop-i.invariant.few, c.if-kinds-at.false),
-      omega (arith, c.if-i-count.false, c.loop-i.invariant.few, c.if-kinds-at.false, c.requires),
-    )
+atom_within_requires c κs = (
+  omega (arith, c.if-i-count.false, c.loop-i.invariant.few, c.if-kinds-at.false),
+  omega (arith, c.if-i-count.false, c.loop-i.invariant.few, c.if-kinds-at.false, c.requires),
+)
 
 word_of_requires : tie.Need-word_of-w-requires invariant_loop decreases_loop
 word_of_requires c κs = search (rules, c.loop-i.invariant.long)

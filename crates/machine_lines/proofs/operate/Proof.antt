@@ -17,7 +17,7 @@ returns_2 c = rw c.if-kind-eq-DIFFERENCE.true (rw (
   to_z-of_z {z = c.args.b} c.ranges.b,
 ) at c.exact_difference.ensures)
 
-returns_3 : tie.Need-returns-then-kind-eq-SUM
+returns_3 : tie.Need-returns
 returns_3 c = rw (
   ne_eqb _ 4 c.if-kind-eq-SUM.false,
   ne_eqb _ 5 c.if-kind-eq-DIFFERENCE.false,

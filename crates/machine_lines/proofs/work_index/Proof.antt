@@ -46,7 +46,7 @@ returns_3 c =
     word2.result} (record { sfits = word2.type_inv })) at c.if-read_length-i.true) c.halted-then-read_length-i.result
     c.halted-then-read_length-i.ensures
 
-returns_4 : tie.Need-returns-then-steps-eq0
+returns_4 : tie.Need-returns
 returns_4 c =
     let a = c.args in
     let word = c.word_of in

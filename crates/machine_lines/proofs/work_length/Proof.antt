@@ -16,7 +16,7 @@ word_from_requires c κs =
     let a = c.args in
     omega (arith, c.read_length.ensures, few_elements a.slots.now a.heads.now c.named_cell-cell.result)
 
-returns_2 : tie.Need-returns-then-steps-eq0
+returns_2 : tie.Need-returns
 returns_2 c =
     let a = c.args in
     let word = c.word_of in

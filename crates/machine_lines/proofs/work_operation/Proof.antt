@@ -16,7 +16,6 @@ returns_2 c =
     let word = c.word_of-v in
     let word2 = c.word_of-w in
     let exact-is = c.operate in
-    let exact = c.z-1 in
     let told = c.in-Value.known_told-1-own in
     operation_value a.calls a.kind a.x a.a a.b a.next a.steps a.env.now
     c.if-steps-eq0.false
@@ -25,10 +24,10 @@ returns_2 c =
           word.result} (record { sfits = word.type_inv }),
       to_z-of_z {z = word2.result} (record { sfits = word2.type_inv }),
     ) at
-    exact-is.ensures) exact.given.0.0 exact.given.1 _ (rw (to_z-of_z {z = exact.given.0.0} (record {
+    exact-is.ensures) c.in-Value.z c.in-Value.is _ (rw (to_z-of_z {z = c.in-Value.z} (record {
       sfits = told.given.0.1;
     })) at c.bind.ensures) c.done.result (rw (to_z-of_z {z =
-    exact.given.0.0} (record { sfits = told.given.0.1 })) at c.done.ensures)
+    c.in-Value.z} (record { sfits = told.given.0.1 })) at c.done.ensures)
 
 returns_3 : tie.Need-returns-in-Overflow
 returns_3 c =

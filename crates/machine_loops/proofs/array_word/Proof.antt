@@ -4,25 +4,25 @@ use Rattle.machine_loops.proofs.Beginning.{array_word}
 use Rattle.machine_loops.proofs.array_word.Statement.{statement}
 use Rattle.machine_loops.proofs.array_word.Tie as tie
 
-returns : tie.Need-returns
+returns : tie.Need-returns-in-Map
 returns c =
-    rw (to_z-of_z {z = c.word_of.result} (record { sfits = c.word_of.type-inv }))
-    (array_word _ _ _ _ c.before.before.l.given.1 _ c.word_of.ensures)
+    rw (to_z-of_z {z = c.word_of.result} (record { sfits = c.word_of.type_inv }))
+    (array_word _ _ _ _ c.in-Map.is _ c.word_of.ensures)
 
-returns_2 : tie.Need-returns-2
+returns_2 : tie.Need-returns-in-Filter
 returns_2 c =
-    rw (to_z-of_z {z = c.word-of2.result} (record { sfits = c.word-of2.type-inv }))
-    (array_word _ _ _ _ c.before.before.l2.given.1 _ c.word-of2.ensures)
+    rw (to_z-of_z {z = c.word_of-in-Filter.result} (record { sfits = c.word_of-in-Filter.type_inv }))
+    (array_word _ _ _ _ c.in-Filter.is _ c.word_of-in-Filter.ensures)
 
-returns_3 : tie.Need-returns-3
+returns_3 : tie.Need-returns-in-Reduce
 returns_3 c =
-    rw (to_z-of_z {z = c.word-of3.result} (record { sfits = c.word-of3.type-inv }))
-    (array_word _ _ _ _ c.before.before.l3.given.1 _ c.word-of3.ensures)
+    rw (to_z-of_z {z = c.word_of-in-Reduce.result} (record { sfits = c.word_of-in-Reduce.type_inv }))
+    (array_word _ _ _ _ c.in-Reduce.is _ c.word_of-in-Reduce.ensures)
 
-returns_4 : tie.Need-returns-4
+returns_4 : tie.Need-returns-in-Rewrite
 returns_4 c =
-    rw (to_z-of_z {z = c.word-of4.result} (record { sfits = c.word-of4.type-inv }))
-    (array_word _ _ _ _ c.before.before.l4.given.1 _ c.word-of4.ensures)
+    rw (to_z-of_z {z = c.word_of-in-Rewrite.result} (record { sfits = c.word_of-in-Rewrite.type_inv }))
+    (array_word _ _ _ _ c.in-Rewrite.is _ c.word_of-in-Rewrite.ensures)
 
 pub array_word_spec : {M : Type 1} → statement M
 array_word_spec =

@@ -6,23 +6,18 @@ use Rattle.machine_loops.proofs.begin_pass.Tie as tie
 
 bind_requires_2 : tie.Need-bind-requires-2
 bind_requires_2 c κs =
-    let at-bind = c.before in
-    let start = at-bind.before.before.before.before in
-    let a = start.args in (
-      start.requires.0,
-      ap length at-bind.bind.ensures ∙ length-set a.env.now (place a.calls a.l.first) _ ∙ start.requires.1,
+    let a = c.args in (
+      c.requires.0,
+      ap length c.bind.ensures ∙ length-set a.env.now (place a.calls a.l.first) _ ∙ c.requires.1,
     )
 
 returns : tie.Need-returns
 returns c =
-    let at-bind = c.before.before in
-    let at_read = at-bind.before.before in
-    let start = at_read.before.before in
-    let a = start.args in
-    let read = at_read.read-slot-within in
-    (rw (to_z-of_z {z = read.result} (record { sfits = read.type-inv })) at c.bind2.ensures)
+    let a = c.args in
+    let read = c.read_slot_within-w in
+    (rw (to_z-of_z {z = read.result} (record { sfits = read.type_inv })) at c.bind-2.ensures)
     ∙ ap₂ (λ (e : List ℤ) (w : ℤ). set e (place a.calls a.l.second) w)
-    (rw (to_z-of_z {z = a.v} start.ranges.v) at at-bind.bind.ensures) read.ensures
+    (rw (to_z-of_z {z = a.v} c.ranges.v) at c.bind.ensures) read.ensures
 
 pub begin_pass_spec : {M : Type 1} → statement M
 begin_pass_spec = tie.close (tie.spec (λ c κs. search rules) (λ c κs. search rules) bind_requires_2 returns)

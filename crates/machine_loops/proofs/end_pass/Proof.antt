@@ -10,118 +10,87 @@ use Rattle.machine_loops.proofs.end_pass.Statement.{statement}
 use Rattle.machine_loops.proofs.end_pass.Tie as tie
 
 -- the cell of the result
-into : (c : tie.After-named-cell) → c.named-cell.result ≡ cell_of c.before.before.before.args.l.carried
+into : (c : tie.After-named_cell-into) → c.named_cell-into.result ≡ cell_of c.args.l.carried
 into c =
-    let l = c.before.before.before.args.l in
-    rw (to_z-of_z {z = l.carried} (record { sfits = c.before.struct_told.given.1.1.1.1.1.0.1 })) at
-    c.named-cell.ensures
+    let l = c.args.l in
+    rw (to_z-of_z {z = l.carried} (record { sfits = c.struct_told-1.given.1.1.1.1.1.0.1 })) at
+    c.named_cell-into.ensures
 
-append_within_requires : tie.Need-append-within-requires
+append_within_requires : tie.Need-append_within-requires
 append_within_requires c κs =
-    let at-enum-told = c.before.before in
-    let at-named-cell = at-enum-told.before.before in
-    let start = at-named-cell.before.before.before in
-    let a = start.args in
-    fills_within a.l.way a.slots.now a.heads.now at-named-cell.named-cell.result a.l.carried
-    (into at-named-cell) start.requires.2 at-enum-told.enum_told.given.0.0 at-enum-told.enum_told.given.1
+    let at-named-cell = c.before.before.before in let a = at-named-cell.args in
+    fills_within a.l.way a.slots.now a.heads.now at-named-cell.named_cell-into.result a.l.carried
+    (into at-named-cell) at-named-cell.requires.2 c.in-Fill.field-0 c.in-Fill.is
 
 -- where what a filter's tree gave was looked at
-answered : (c : tie.After-is-answer) →
-    let r = c.before.before.before.before.before.before.before.args.r in
+answered : (c : tie.After-is_answer) →
+    let r = c.args.r in
     c.is_answer.result ≡ is_answer r
 answered c =
-    let start = c.before.before.before.before.before.before.before in
-    rw (to_z-of_z {z = start.args.r} start.ranges.r) at c.is_answer.ensures
+    rw (to_z-of_z {z = c.args.r} c.ranges.r) at c.is_answer.ensures
 
-returns : tie.Need-returns
+returns : tie.Need-returns-then-not-is_answer
 returns c =
-    let at-is-answer = c.before in
-    let at-way = at-is-answer.before.before in
-    let at-named-cell = at-way.before.before in
-    let start = at-named-cell.before.before.before in
-    let a = start.args in
-    doubts a.l.way at-named-cell.named-cell.result a.l.carried (into at-named-cell) a.v a.i
+    let at-is-answer = c.before in let at-named-cell = at-is-answer.before.before in let a = at-named-cell.args in
+    doubts a.l.way at-named-cell.named_cell-into.result a.l.carried (into at-named-cell) a.v a.i
     (get_or a.env.now (place a.calls a.l.first) (pos 0)) a.r (store_of a.slots.now a.heads.now)
-    (store_of a.slots.now a.heads.now) at-way.way.given.0.0 at-way.way.given.1
-    (sym (answered at-is-answer) ∙ not-true at-is-answer.is_answer.result c.if1.true) refl
+    (store_of a.slots.now a.heads.now) at-is-answer.in-Keep.arrays at-is-answer.in-Keep.is
+    (sym (answered at-is-answer) ∙ c.if-not-is_answer.true) refl
 
 keep_requires : tie.Need-keep-requires
 keep_requires c κs =
-    let at-way = c.before.before.before.before.before.before in
-    let at-named-cell = at-way.before.before in
-    let start = at-named-cell.before.before.before in
-    let a = start.args in
-    keeps_within a.l.way a.slots.now a.heads.now at-named-cell.named-cell.result a.l.carried
-    (into at-named-cell) start.requires.2 at-way.way.given.0.0 at-way.way.given.1
+    let at-named-cell = c.before.before.before.before.before.before in let a = at-named-cell.args in
+    keeps_within a.l.way a.slots.now a.heads.now at-named-cell.named_cell-into.result a.l.carried
+    (into at-named-cell) at-named-cell.requires.2 c.in-Keep.arrays c.in-Keep.is
 
-returns_2 : tie.Need-returns-2
+returns_2 : tie.Need-returns-in-Fill
 returns_2 c =
-    let at-append-within = c.before.before.before in
-    let at-enum-told = at-append-within.before.before.before in
-    let at-named-cell = at-enum-told.before.before in
-    let start = at-named-cell.before.before.before in
-    let a = start.args in
-    let put = at-append-within.append_within in
-    rw (to_z-of_z {z = a.v} start.ranges.v)
-    (fills a.l.way at-named-cell.named-cell.result a.l.carried (into at-named-cell) a.v a.i
+    let at-named-cell = c.before.before.before.before.before.before.before in let a = at-named-cell.args in
+    let put = c.append_within in
+    rw (to_z-of_z {z = a.v} at-named-cell.ranges.v)
+    (fills a.l.way at-named-cell.named_cell-into.result a.l.carried (into at-named-cell) a.v a.i
     (get_or a.env.now (place a.calls a.l.first) (pos 0)) a.r (store_of a.slots.now a.heads.now)
-    (store_of put.new.0 put.new.1.0) at-enum-told.enum_told.given.0.0
-    at-enum-told.enum_told.given.1
-    (rw (to_z-of_z {z = a.r} start.ranges.r) at put.ensures))
+    (store_of put.new.slots put.new.heads) c.in-Fill.field-0
+    c.in-Fill.is
+    (rw (to_z-of_z {z = a.r} at-named-cell.ranges.r) at put.ensures))
 
-returns_3 : tie.Need-returns-3
+returns_3 : tie.Need-returns-else-not-is_answer
 returns_3 c =
-    let at-keep = c.before.before.before in
-    let at-word-of = at-keep.before.before.before in
-    let at-if1 = at-word-of.before in
-    let at-is-answer = at-if1.before in
-    let at-way = at-is-answer.before.before in
-    let at-named-cell = at-way.before.before in
-    let start = at-named-cell.before.before.before in
-    let a = start.args in
-    let word = at-word-of.word_of in
-    let put = at-keep.keep in
-    rw (to_z-of_z {z = a.v} start.ranges.v)
-    (keeps_on a.l.way at-named-cell.named-cell.result a.l.carried (into at-named-cell) a.v a.i
+    let at-is-answer = c.before.before.before.before.before.before.before.before in let at-named-cell = at-is-answer.before.before in let a = at-named-cell.args in
+    let word = c.word_of-w in
+    let put = c.keep in
+    rw (to_z-of_z {z = a.v} at-named-cell.ranges.v)
+    (keeps_on a.l.way at-named-cell.named_cell-into.result a.l.carried (into at-named-cell) a.v a.i
     (get_or a.env.now (place a.calls a.l.first) (pos 0)) a.r (store_of a.slots.now a.heads.now)
-    (store_of put.new.0 put.new.1.0) at-way.way.given.0.0 at-way.way.given.1
-    (sym (answered at-is-answer) ∙ not-false at-is-answer.is_answer.result at-if1.if1.false) word.result
+    (store_of put.new.slots put.new.heads) at-is-answer.in-Keep.arrays at-is-answer.in-Keep.is
+    (sym (answered at-is-answer) ∙ c.if-not-is_answer.false) word.result
     word.ensures
-    (rw (to_z-of_z {z = a.r} start.ranges.r, to_z-of_z {z = word.result} (record { sfits = word.type-inv })) at
+    (rw (to_z-of_z {z = a.r} at-named-cell.ranges.r, to_z-of_z {z = word.result} (record { sfits = word.type_inv })) at
     put.ensures))
 
-returns_4 : tie.Need-returns-4
+returns_4 : tie.Need-returns-in-Hand
 returns_4 c =
-    let at-named-cell = c.before.before in
-    let start = at-named-cell.before.before.before in
-    let a = start.args in
-    rw (to_z-of_z {z = a.r} start.ranges.r)
-    (hands a.l.way at-named-cell.named-cell.result a.l.carried (into at-named-cell) a.v a.i
+    let at-named-cell = c.before in let a = at-named-cell.args in
+    rw (to_z-of_z {z = a.r} at-named-cell.ranges.r)
+    (hands a.l.way at-named-cell.named_cell-into.result a.l.carried (into at-named-cell) a.v a.i
     (get_or a.env.now (place a.calls a.l.first) (pos 0)) a.r (store_of a.slots.now a.heads.now)
-    (store_of a.slots.now a.heads.now) c.enum-told2.given.1 refl)
+    (store_of a.slots.now a.heads.now) c.in-Hand.is refl)
 
-overwrite_within_requires : tie.Need-overwrite-within-requires
+overwrite_within_requires : tie.Need-overwrite_within-requires
 overwrite_within_requires c κs =
-    let at-enum-told = c.before.before in
-    let at-named-cell = at-enum-told.before.before in
-    let start = at-named-cell.before.before.before in
-    let a = start.args in
-    overwrites_within a.l.way a.slots.now a.heads.now at-named-cell.named-cell.result a.l.carried
-    (into at-named-cell) start.requires.2 at-enum-told.enum-told3.given.1
+    let at-named-cell = c.before.before in let a = at-named-cell.args in
+    overwrites_within a.l.way a.slots.now a.heads.now at-named-cell.named_cell-into.result a.l.carried
+    (into at-named-cell) at-named-cell.requires.2 c.in-Overwrite.is
 
-returns_5 : tie.Need-returns-5
+returns_5 : tie.Need-returns-in-Overwrite
 returns_5 c =
-    let at-put = c.before in
-    let at-enum-told = at-put.before.before.before in
-    let at-named-cell = at-enum-told.before.before in
-    let start = at-named-cell.before.before.before in
-    let a = start.args in
-    let put = at-put.overwrite-within in
-    rw (to_z-of_z {z = a.v} start.ranges.v)
-    (overwrites a.l.way at-named-cell.named-cell.result a.l.carried (into at-named-cell) a.v a.i
+    let at-named-cell = c.before.before.before.before in let a = at-named-cell.args in
+    let put = c.overwrite_within in
+    rw (to_z-of_z {z = a.v} at-named-cell.ranges.v)
+    (overwrites a.l.way at-named-cell.named_cell-into.result a.l.carried (into at-named-cell) a.v a.i
     (get_or a.env.now (place a.calls a.l.first) (pos 0)) a.r (store_of a.slots.now a.heads.now)
-    (store_of put.new.0 a.heads.now) at-enum-told.enum-told3.given.1
-    (rw (to_z-of_z {z = a.r} start.ranges.r) at put.ensures))
+    (store_of put.new.slots a.heads.now) c.in-Overwrite.is
+    (rw (to_z-of_z {z = a.r} at-named-cell.ranges.r) at put.ensures))
 
 pub end_pass_spec : {M : Type 1} → statement M
 end_pass_spec =

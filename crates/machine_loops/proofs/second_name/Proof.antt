@@ -4,8 +4,8 @@ use Rattle.machine_lines.specs.Lines.{second_name}
 use Rattle.machine_loops.proofs.second_name.Statement.{statement}
 use Rattle.machine_loops.proofs.second_name.Tie as tie
 
-returns_3 : tie.Need-returns-3
-returns_3 c = ap second_name (sym c.before.l3.given.1)
+returns_3 : tie.Need-returns-in-Reduce
+returns_3 c = ap second_name (sym c.in-Reduce.is)
 
 pub second_name_spec : {M : Type 1} → statement M
 second_name_spec =

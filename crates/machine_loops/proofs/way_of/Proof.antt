@@ -7,28 +7,24 @@ use Rattle.machine_loops.proofs.Beginning.{way_in_place, way_anew}
 use Rattle.machine_loops.proofs.way_of.Statement.{statement}
 use Rattle.machine_loops.proofs.way_of.Tie as tie
 
-returns_2 : tie.Need-returns-2
+returns_2 : tie.Need-returns-in-Filter
 returns_2 c =
-    let a = c.before.before.args in
-    ap (λ (l : Loop). way_of (kind_of l) a.depth a.from a.carried) (sym c.enum-told2.given.1)
+    let a = c.args in
+    ap (λ (l : Loop). way_of (kind_of l) a.depth a.from a.carried) (sym c.in-Filter.is)
 
-returns_4 : tie.Need-returns-4
+returns_4 : tie.Need-returns-then-named_cell-from
 returns_4 c =
-    let at_told = c.before.before in
-    let start = at_told.before.before in
-    let a = start.args in
-    way_in_place a.l _ _ at_told.enum-told4.given.1 a.depth a.from a.carried
-    c.before.named-cell.result
-    (rw (to_z-of_z {z = a.carried} start.ranges.carried) at c.before.named-cell.ensures) c.if1.true
+    let a = c.args in
+    way_in_place a.l _ _ c.in-Rewrite.is a.depth a.from a.carried
+    c.named_cell.result
+    (rw (to_z-of_z {z = a.carried} c.ranges.carried) at c.named_cell.ensures) c.if-named_cell-from.true
 
-returns_5 : tie.Need-returns-5
+returns_5 : tie.Need-returns-else-named_cell-from
 returns_5 c =
-    let at_told = c.before.before in
-    let start = at_told.before.before in
-    let a = start.args in
-    way_anew a.l _ _ at_told.enum-told4.given.1 a.depth a.from a.carried
-    c.before.named-cell.result
-    (rw (to_z-of_z {z = a.carried} start.ranges.carried) at c.before.named-cell.ensures) c.if1.false
+    let a = c.args in
+    way_anew a.l _ _ c.in-Rewrite.is a.depth a.from a.carried
+    c.named_cell.result
+    (rw (to_z-of_z {z = a.carried} c.ranges.carried) at c.named_cell.ensures) c.if-named_cell-from.false
 
 pub way_of_spec : {M : Type 1} → statement M
 way_of_spec =

@@ -4,26 +4,26 @@ use Rattle.prelude.specs.Kit.{rules}
 use Rattle.script.proofs.check.Statement.{statement}
 use Rattle.script.proofs.check.Tie as tie
 
-type_script_requires : tie.Need-type-script-requires
-type_script_requires c κs = (started c.before.before.requires.0 _ c.before.before.requires.1).long
+type_script_requires : tie.Need-type_script-requires
+type_script_requires c κs = (started c.requires.0 _ c.requires.1).long
 
-returns : tie.Need-returns
+returns : tie.Need-returns-in-Within
 returns c =
-    accepted c.before.before.before.before.before.before.before.before.requires.0 _ c.before.before.before.before.before.before.before.before.requires.1 _ c.before.before.before.before.before.type-script.ensures _ c.before.before.before.enum_told.given.1 _
-    c.before.before.count-script.ensures c.enum-told2.given.1
+    accepted c.requires.0 _ c.requires.1 _ c.type_script.ensures _ c.in-Next.is _
+    c.count_script.ensures c.in-Within.is
 
-returns_2 : tie.Need-returns-2
+returns_2 : tie.Need-returns-in-Over
 returns_2 c =
-    crowd_found c.before.before.before.before.before.before.before.before.before.requires.0 _ c.before.before.before.before.before.before.before.before.before.requires.1 _ c.before.before.before.before.before.before.type-script.ensures _ c.before.before.before.before.enum_told.given.1 _
-    c.before.before.before.count-script.ensures _ c.before.p.given.1
+    crowd_found c.requires.0 _ c.requires.1 _ c.type_script.ensures _ c.in-Next.is _
+    c.count_script.ensures _ c.in-Over.is
 
-returns_3 : tie.Need-returns-3
+returns_3 : tie.Need-returns-in-Next-name_script
 returns_3 c =
-    mismatch_found c.before.before.before.before.before.before.before.before.before.requires.0 _ c.before.before.before.before.before.before.before.before.before.requires.1 _ c.before.before.before.before.before.before.type-script.ensures _ _ c.before.before.before.before.n.given.1 _
-    c.before.before.name-script.ensures _ c.enum-told3.given.1
+    mismatch_found c.requires.0 _ c.requires.1 _ c.type_script.ensures _ _ c.in-Refused.is _
+    c.name_script.ensures _ c.in-Next-name_script.is
 
-returns_4 : tie.Need-returns-4
-returns_4 c = unknown_found c.before.before.before.before.before.before.before.before.before.before.requires.0 _ c.before.before.before.name-script.ensures _ _ c.before.m.given.1
+returns_4 : tie.Need-returns-in-Refused-name_script
+returns_4 c = unknown_found c.requires.0 _ c.name_script.ensures _ _ c.in-Refused-name_script.is
 
 pub check_spec : {M : Type 1} → statement M
 check_spec =

@@ -95,13 +95,12 @@ release_cast_at_most t c =
 
 release_loop_holds : (t : ℕ) → release-lts.Need-loop-i-init (release_claims t) (release_at t) release.Post
     release_Inv_loop release_μ_loop
-release_loop_holds t c =
-    (
-      omega arith,
-      refl,
-      refl,
-      releasing_none _ _ _ _ _ (ap length c.slots_of-words.ensures ∙ slots_length _ _) (omega arith),
-    )
+release_loop_holds t c = (
+  omega arith,
+  refl,
+  refl,
+  releasing_none _ _ _ _ _ (ap length c.slots_of-words.ensures ∙ slots_length _ _) (omega arith),
+)
 
 release_add_freed : (t : ℕ) → release-lts.Need-overflow_add-freed (release_claims t) (release_at t) release.Post
     release_Inv_loop release_μ_loop

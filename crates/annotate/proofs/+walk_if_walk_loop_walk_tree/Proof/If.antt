@@ -17,71 +17,71 @@ module _ (t : ℕ) where
 
   -- ---- the way back, from call to call
 
-  abbrev start : Here lts.After-walk-tree → Here lts.Start
+  abbrev start : Here lts.After-walk_tree-second → Here lts.Start
   start c = c.before.before.before.before.before.before.before.before
 
-  abbrev second : Here lts.After-put-used-arg3 → Here lts.After-walk-tree
+  abbrev second : Here lts.After-put-used-arg3 → Here lts.After-walk_tree-second
   second c = c.before.before.before.before.before.before.before
 
-  abbrev second_opened : Here lts.After-walk-tree-arg8 → Here lts.After-put-used
+  abbrev second_opened : Here lts.After-walk_tree-arg-8-1 → Here lts.After-put_used-second_opened
   second_opened c = c.before.before.before.before.before.before.before.before
 
-  abbrev first : Here lts.After-first → Here lts.After-walk-tree2
+  abbrev first : Here lts.After-first-1 → Here lts.After-walk_tree-first
   first c = c.before.before.before.before.before.before.before
 
-  abbrev first_opened : Here lts.After-put-atom-arg2 → Here lts.After-put-releases
+  abbrev first_opened : Here lts.After-put_atom-arg-2-1 → Here lts.After-put_releases-first_opened
   first_opened c = c.before.before.before.before.before
 
-  abbrev guarded : Here lts.After-put-row-arg2 → Here lts.After-put-atom
+  abbrev guarded : Here lts.After-put_row-arg-2-1 → Here lts.After-put_atom-guarded
   guarded c = c.before.before.before.before.before
 
-  abbrev headed : Here lts.After-take-use-arg → Here lts.After-put-row
+  abbrev headed : Here lts.After-take_use-arg-1 → Here lts.After-put_row-headed
   headed c = c.before.before.before.before.before
 
-  abbrev second_of_first : Here lts.After-walk-tree2 → Here lts.After-walk-tree
+  abbrev second_of_first : Here lts.After-walk_tree-first → Here lts.After-walk_tree-second
   second_of_first c = second (second_opened c.before).before.before
 
-  abbrev first_of_head : Here lts.After-put-row → Here lts.After-walk-tree2
+  abbrev first_of_head : Here lts.After-put_row-headed → Here lts.After-walk_tree-first
   first_of_head c = first (first_opened (guarded c.before).before).before
 
   -- ---- what the calls ask
 
-  pub walk_tree_requires : Here lts.Need-walk-tree-requires
+  pub walk_tree_requires : Here lts.Need-walk_tree-second-requires
   walk_tree_requires c κs =
-      let h = c.before.before.before.before.before.before.before.requires in (
+      let h = c.requires in (
         omega (arith, h.0),
         (
-          omega (arith, c.before.before.before.before.less_two.ensures, h.1.1),
+          omega (arith, c.less_two-e.ensures, h.1.1),
           h.1.2,
           h.1.3,
         ),
       )
 
-  pub add_put_used : Here lts.Need-overflow-add-put-used
-  add_put_used c = omega (arith, (start (second c)).pre.1.0)
+  pub add_put_used : Here lts.Need-overflow_add-p
+  add_put_used c = omega (arith, (start (second c)).requires.1.0)
 
-  pub put_used_requires : Here lts.Need-put-used-requires
+  pub put_used_requires : Here lts.Need-put_used-second_opened-requires
   put_used_requires c κs =
       let at_second = second c.before in
       let begun = start at_second in
-      (omega (arith, begun.fits.x), lower at_second.walk-tree.ensures.wrote begun.pre.1.3)
+      (omega (arith, begun.fits.x), lower at_second.walk-tree.ensures.wrote begun.requires.1.3)
 
-  pub then_end_at_requires : Here lts.Need-then-end-at-requires
-  then_end_at_requires c κs = omega (arith, (start (second c.before.before.before.before.before)).pre.1.0)
+  pub then_end_at_requires : Here lts.Need-then_end_at-t-requires
+  then_end_at_requires c κs = omega (arith, (start (second c.before.before.before.before.before)).requires.1.0)
 
-  pub walk_tree_requires_2 : Here lts.Need-walk-tree-requires-2
+  pub walk_tree_requires_2 : Here lts.Need-walk_tree-first-requires
   walk_tree_requires_2 c κs =
       let opened = second_opened c in
       let at_second = second opened.before.before in (
-        omega (arith, (start at_second).pre.0),
+        omega (arith, (start at_second).requires.0),
         (
-          c.before.before.before.before.then-end-at.ensures.1,
+          c.then_end_at-t.ensures.1,
           at_second.walk-tree.ensures.long,
           lower opened.put_used.ensures (put_used_requires opened.before opened.put_used.lifetimes).1,
         ),
       )
 
-  pub put_releases_requires : Here lts.Need-put-releases-requires
+  pub put_releases_requires : Here lts.Need-put_releases-first_opened-requires
   put_releases_requires c κs =
       let at_first = first c in (
         omega (arith, (start (second_of_first at_first)).fits.x),
@@ -89,24 +89,24 @@ module _ (t : ℕ) where
             (walk_tree_requires_2 at_first.before at_first.walk-tree2.lifetimes).1.2,
       )
 
-  pub put_atom_requires : Here lts.Need-put-atom-requires
+  pub put_atom_requires : Here lts.Need-put_atom-guarded-requires
   put_atom_requires c κs =
       let opened = first_opened c in
       lower opened.put-releases.ensures
       (put_releases_requires opened.before opened.put-releases.lifetimes).1
 
-  pub put_row_requires : Here lts.Need-put-row-requires
+  pub put_row_requires : Here lts.Need-put_row-headed-requires
   put_row_requires c κs =
       let at-guard = guarded c in
       lower at-guard.put-atom.ensures (put_atom_requires at-guard.before at-guard.put-atom.lifetimes)
 
-  pub add_take_use : Here lts.Need-overflow-add-take-use
-  add_take_use c = omega (arith, (start (second_of_first (first_of_head (headed c)))).pre.1.0)
+  pub add_take_use : Here lts.Need-overflow_add-p-2
+  add_take_use c = omega (arith, (start (second_of_first (first_of_head (headed c)))).requires.1.0)
 
-  pub take_use_requires : Here lts.Need-take-use-requires
+  pub take_use_requires : Here lts.Need-take_use-u-requires
   take_use_requires c κs =
       let at_first = first_of_head (headed c.before) in
-      (omega (arith, (start (second_of_first at_first)).pre.1.0), (at_first.walk-tree2.ensures.long, search rules))
+      (omega (arith, (start (second_of_first at_first)).requires.1.0), (at_first.walk-tree2.ensures.long, search rules))
 
   -- ---- what it answers
 
@@ -116,11 +116,11 @@ module _ (t : ℕ) where
       let guard = guarded head.before in
       let opened = first_opened guard.before in
       let at_first = first opened.before in
-      let found = at_first.before.before.before.before.before.then-end-at in
+      let found = at_first.then_end_at-t in
       let opened-second = second_opened at_first.before in
       let at_second = second opened-second.before.before in
-      let less = at_second.before.before.before.before.before.less_two in
-      let joined = c.before.before.before.before.joined in
+      let less = at_second.less_two-e in
+      let joined = c.joined-live in
       let a = (start at_second).args in
       let code = plain a.operands.now a.rows.now a.notes.now in
       let borrowing = borrows a.table.now in
@@ -130,10 +130,10 @@ module _ (t : ℕ) where
       (meant a.g) a.after at_second.walk-tree.result at_first.walk-tree2.result joined.result _
       less.result found.result less.ensures found.ensures.0 at_second.walk-tree.ensures
       opened-second.put_used.ensures at_first.walk-tree2.ensures opened.put-releases.ensures
-      guard.put-atom.ensures head.put-row.ensures joined.ensures c.before.take-use.ensures
+      guard.put-atom.ensures head.put-row.ensures joined.ensures c.take_use-u.ensures
 
-  pub same_length : Here lts.Need-same-length
+  pub same_length : Here lts.Need-shape_of-ks
   same_length c = (returns c).wrote.long_kinds
 
-  pub same_length_2 : Here lts.Need-same-length-2
+  pub same_length_2 : Here lts.Need-shape_of-os
   same_length_2 c = (returns c).wrote.long_operands

@@ -7,45 +7,45 @@ use Rattle.prelude.specs.Kit.{rules}
 use Rattle.annotate.proofs.leaf.walk_leaf.Statement.{statement}
 use Rattle.annotate.proofs.leaf.walk_leaf.Tie as tie
 
-returns : tie.Need-returns
+returns : tie.Need-returns-in-Unary
 returns c =
-    let a = c.before.before.before.before.before.before.before.before.before.before.before.before.before.before.before.args in
+    let a = c.args in
     let code = plain a.operands.now a.rows.now a.notes.now in
     let borrowing = borrows a.table.now in
-    rw c.before.before.before.before.before.before.before.before.before.before.l.given.1
+    rw c.in-Unary.is
     (unary_done code borrowing (depth_in a.depths.now) a.p _ _ _ _
-    (c.before.before.before.before.before.put-unary.ensures borrowing) c.take_two.ensures)
+    (c.put_unary-v.ensures borrowing) c.take_two.ensures)
 
-returns_2 : tie.Need-returns-2
+returns_2 : tie.Need-returns-in-Binary
 returns_2 c =
-    let a = c.before.before.before.before.before.before.before.before.before.before.before.before.before.before.before.args in
+    let a = c.args in
     let code = plain a.operands.now a.rows.now a.notes.now in
     let borrowing = borrows a.table.now in
-    rw c.before.before.before.before.before.before.before.before.before.before.l2.given.1
+    rw c.in-Binary.is
     (binary_done code borrowing (depth_in a.depths.now) a.p _ _ _ _
-    (c.before.before.before.before.before.put-binary.ensures borrowing) c.take-two2.ensures)
+    (c.put_binary-v.ensures borrowing) c.take_two-in-Binary.ensures)
 
-returns_3 : tie.Need-returns-3
+returns_3 : tie.Need-returns-in-Call
 returns_3 c =
-    let a = c.before.before.before.before.before.before.before.before.before.before.before.before.before.before.before.args in
+    let a = c.args in
     let code = plain a.operands.now a.rows.now a.notes.now in
     let borrowing = borrows a.table.now in
-    rw c.before.before.before.before.before.before.before.before.before.before.l3.given.1
+    rw c.in-Call.is
     (call_done code borrowing (depth_in a.depths.now) a.p _ _ _
-    c.before.before.before.before.before.put-call.ensures c.take-handed.ensures)
+    c.put_call-v.ensures c.take_handed.ensures)
 
-returns_4 : tie.Need-returns-4
+returns_4 : tie.Need-returns-in-Literal
 returns_4 c =
-    let a = c.before.before.before.before.before.before.before.before.before.before.before.before.before.before.before.args in
+    let a = c.args in
     let code = plain a.operands.now a.rows.now a.notes.now in
     let borrowing = borrows a.table.now in
-    rw c.before.before.before.before.before.before.before.before.before.before.l4.given.1
+    rw c.in-Literal.is
     (literal_done code borrowing (depth_in a.depths.now) a.p _ _ _
-    c.before.before.before.before.before.put-handing.ensures c.take-handed2.ensures)
+    c.put_handing-v.ensures c.take_handed-in-Literal.ensures)
 
-returns_5 : tie.Need-returns-5
+returns_5 : tie.Need-returns-in_default
 returns_5 c =
-    absurd (not_leaf c.before.before.before.before.args.l c.match.keys5 c.before.before.before.before.requires.0)
+    absurd (not_leaf c.args.l c.in_default.in_default-own.keys5 c.requires.0)
 
 pub walk_leaf_spec : {M : Type 1} → statement M
 walk_leaf_spec =

@@ -5,13 +5,13 @@ use Rattle.annotate_lines.proofs.Arguments.{counts, counts_not}
 use Rattle.annotate_lines.proofs.calls.owned_at.Statement.{statement}
 use Rattle.annotate_lines.proofs.calls.owned_at.Tie as tie
 
-returns : tie.Need-returns
-returns c = counts_not _ (ap not (sym c.before.is-borrowed.ensures ∙ c.if1.true))
+returns : tie.Need-returns-then-is_borrowed
+returns c = counts_not _ (ap not (sym c.is_borrowed.ensures ∙ c.if-is_borrowed.true))
 
-returns_2 : tie.Need-returns-2
+returns_2 : tie.Need-returns
 returns_2 c =
-    counts (ap not (sym c.before.before.before.is-borrowed.ensures ∙ c.before.before.if1.false))
-    (ap meant (c.atom-of.ensures ∙ ap (placed _) c.before.row_at.ensures))
+    counts (ap not (sym c.is_borrowed.ensures ∙ c.if-is_borrowed.false))
+    (ap meant (c.atom_of.ensures ∙ ap (placed _) c.row_at-place.ensures))
 
 pub owned_at_spec : {M : Type 1} → statement M
 owned_at_spec =

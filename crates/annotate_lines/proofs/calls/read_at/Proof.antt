@@ -5,13 +5,13 @@ use Rattle.annotate_lines.proofs.Arguments.{counts, counts_not}
 use Rattle.annotate_lines.proofs.calls.read_at.Statement.{statement}
 use Rattle.annotate_lines.proofs.calls.read_at.Tie as tie
 
-returns : tie.Need-returns
+returns : tie.Need-returns-then-is_borrowed
 returns c =
-    counts (sym c.before.before.before.is-borrowed.ensures ∙ c.before.before.if1.true)
-    (ap meant (c.atom-of.ensures ∙ ap (placed _) c.before.row_at.ensures))
+    counts (sym c.is_borrowed.ensures ∙ c.if-is_borrowed.true)
+    (ap meant (c.atom_of.ensures ∙ ap (placed _) c.row_at-place.ensures))
 
-returns_2 : tie.Need-returns-2
-returns_2 c = counts_not _ (sym c.before.is-borrowed.ensures ∙ c.if1.false)
+returns_2 : tie.Need-returns
+returns_2 c = counts_not _ (sym c.is_borrowed.ensures ∙ c.if-is_borrowed.false)
 
 pub read_at_spec : {M : Type 1} → statement M
 read_at_spec =

@@ -17,42 +17,42 @@ use Rattle.annotate_lines.proofs.calls.release_read.Tie as tie
 abbrev read : List ℕ → List ℕ → Table → ℕ → ℕ → ℕ → List Atom
 read operands rows table f at m = leaf_reads (borrows table) (call f) (atoms_at operands rows at m)
 
-abbrev invariant_loop : tie.invariant_loop
+abbrev invariant_loop : tie.invariant-loop-n
 invariant_loop ks₀ os₀ depths operands rows table f at m x live w v₀ n₀ ks os v n =
     (n ≤ 256) × Room ks os v
     × Wrote ks₀ os₀ ks os w v
     (releases_from (depth_in depths) (among (read operands rows table f at m) (only x)) (set_of live) n)
     × (0 < n → among (read operands rows table f at m) (only x) (n - 1) ≡ true)
 
-abbrev decreases_loop : tie.decreases_loop
+abbrev decreases_loop : tie.decreases-loop-n
 decreases_loop ks₀ os₀ depths operands rows table f at m x live w v₀ n₀ ks os v n = n
 
-loop_holds : tie.Need-loop-init invariant_loop decreases_loop
+loop_holds : tie.Need-loop-n-init invariant_loop decreases_loop
 loop_holds c =
-    let a = c.before.before.before.args in
+    let a = c.args in
     let us = read a.operands.now a.rows.now a.table.now a.f a.at a.m in
-    let h = highest_as a.x 256 us c.highest-read.ensures in (
+    let h = highest_as a.x 256 us c.highest_read-n.ensures in (
       h.within,
       search rules,
       drops_none (depth_in a.depths.now) (among us (only a.x)) (set_of a.live.now) _ h,
       h.member,
     )
 
-loop_less : tie.Need-loop-smaller invariant_loop decreases_loop
+loop_less : tie.Need-loop-n-smaller invariant_loop decreases_loop
 loop_less c =
-    let a = c.before.before.before.before.before.before.before.before.before.before.before.before.before.args in
+    let a = c.args in
     let us = read a.operands.now a.rows.now a.table.now a.f a.at a.m in
-    omega (arith, (highest_as a.x _ us c.highest-read2.ensures).within)
+    omega (arith, (highest_as a.x _ us c.highest_read-h.ensures).within)
 
-loop_again : tie.Need-loop-preserved invariant_loop decreases_loop
+loop_again : tie.Need-loop-n-preserved invariant_loop decreases_loop
 loop_again c =
-    let at-release-one = c.before.before.before.before.release-one in
-    let at-loop = c.before.before.before.before.before.before.before.before.before.loop in
-    let a = c.before.before.before.before.before.before.before.before.before.before.before.before.before.args in
+    let at-release-one = c.release_one-u in
+    let at-loop = c.loop-n in
+    let a = c.args in
     let v = at-loop.invariant in
-    let taken = c.before.before.before.before.before.before.before.before.loop-test.true in
+    let taken = c.loop-n-test.true in
     let us = read a.operands.now a.rows.now a.table.now a.f a.at a.m in
-    let h = highest_as a.x (at-loop.n - 1) us c.highest-read2.ensures in (
+    let h = highest_as a.x (at-loop.n - 1) us c.highest_read-h.ensures in (
       omega (arith, h.within),
       lower at-release-one.ensures v.1,
       drops_more (depth_in a.depths.now) (among us (only a.x)) (set_of a.live.now) at-loop.n _ taken
@@ -62,10 +62,10 @@ loop_again c =
 
 returns : tie.Need-returns invariant_loop decreases_loop
 returns c =
-    let a = c.before.before.before.before.before.args in
+    let a = c.args in
     release_all (depth_in a.depths.now)
     (among (read a.operands.now a.rows.now a.table.now a.f a.at a.m) (only a.x))
-    (set_of a.live.now) c.loop-test.false c.before.loop.invariant.2
+    (set_of a.live.now) c.loop-n-test.false c.loop-n.invariant.2
 
 pub release_read_spec : {M : Type 1} → statement M
 release_read_spec =

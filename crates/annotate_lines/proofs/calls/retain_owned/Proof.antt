@@ -14,19 +14,19 @@ use Rattle.annotate_lines.proofs.calls.retain_owned.Tie as tie
 abbrev owned : Table → ℕ → ℕ → Bool
 owned table f = λ i. not (borrows table f i)
 
-abbrev invariant_loop : tie.invariant_loop
+abbrev invariant_loop : tie.invariant-loop-i
 invariant_loop ks₀ os₀ depths operands rows table f at m w later₀ v₀ i₀ ks os later v i =
     (i ≤ m) × (m < 256) × Room ks os v
     × Wrote ks₀ os₀ ks os w v
     (retain_rows (handed_again (depth_in depths) (picked_at operands rows (owned table f) at i m) (set_of later₀)))
     × (set_of later ≡ among (picked_at operands rows (owned table f) at i m) (set_of later₀)) × (length later ≡ 256)
 
-abbrev decreases_loop : tie.decreases_loop
+abbrev decreases_loop : tie.decreases-loop-i
 decreases_loop ks₀ os₀ depths operands rows table f at m w later₀ v₀ i₀ ks os later v i = i
 
-loop_holds : tie.Need-loop-init invariant_loop decreases_loop
+loop_holds : tie.Need-loop-i-init invariant_loop decreases_loop
 loop_holds c =
-    let a = c.before.before.args in (
+    let a = c.args in (
       omega arith,
       omega arith,
       search rules,
@@ -36,15 +36,13 @@ loop_holds c =
       search rules,
     )
 
-loop_again : tie.Need-loop-preserved invariant_loop decreases_loop
+loop_again : tie.Need-loop-i-preserved invariant_loop decreases_loop
 loop_again c =
-    let retained = c.before.before.before.before.before.before in
-    let taken = retained.before.before.before.before in
-    let at-retain-atom = retained.retain-atom in
-    let at-owned-at = taken.owned_at in
-    let at-loop-test = taken.before.loop-test in
-    let at-loop = taken.before.before.loop in
-    let a = taken.before.before.before.before.before.args in
+    let at-retain-atom = c.retain_atom-n in
+    let at-owned-at = c.owned_at-a in
+    let at-loop-test = c.loop-i-test in
+    let at-loop = c.loop-i in
+    let a = c.args in
     let v = at-loop.invariant in (
       omega arith,
       v.1,
@@ -54,16 +52,16 @@ loop_again c =
           at-retain-atom.ensures,
       joins_more a.operands.now a.rows.now (owned a.table.now a.f) a.at at-loop.i a.m
           (set_of a.live) (set_of at-loop.later) _ _ at-loop-test.true v.0 v.4 at-owned-at.ensures
-          c.before.member_of.ensures,
+          c.member_of-u.ensures,
       simp length-set v.5,
     )
 
 returns : tie.Need-returns invariant_loop decreases_loop
 returns c =
-    let at-loop = c.before.loop in
-    let a = c.before.before.before.before.args in
+    let at-loop = c.loop-i in
+    let a = c.args in
     owned_all a.operands.now a.rows.now (owned a.table.now a.f) a.at (depth_in a.depths.now)
-    (set_of a.live) at-loop.i a.m c.loop-test.false at-loop.invariant.3
+    (set_of a.live) at-loop.i a.m c.loop-i-test.false at-loop.invariant.3
 
 pub retain_owned_spec : {M : Type 1} → statement M
 retain_owned_spec =

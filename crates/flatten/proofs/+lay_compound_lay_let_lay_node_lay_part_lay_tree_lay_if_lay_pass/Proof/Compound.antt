@@ -55,7 +55,7 @@ module _ (t : ℕ) where
   -- in a turn with a part that is no atom, which is laid
   abbrev turn_of : lts.After-lay_part-r (lay_compound_claims t) (lay_compound_at t) lay-compound.Post
       lay_compound_Inv_loop lay_compound_μ_loop → Turn
-  turn_of c = c.before.before.before.before.before.before.before.before.before
+  turn_of c = c.before.before.before.before.before.before.before.before
 
   -- after the loop, when it is known whether the node is a loop's
   abbrev Listed : Type 0
@@ -79,7 +79,7 @@ module _ (t : ℕ) where
 
   pub lay_compound_atom_place_requires : lts.Need-atom_place-place-requires (lay_compound_claims t) (lay_compound_at t)
       lay-compound.Post lay_compound_Inv_loop lay_compound_μ_loop
-  lay_compound_atom_place_requires c κs = rw c.loop-i.invariant.1 (start_of c.before).pre.1.1.0
+  lay_compound_atom_place_requires c κs = rw c.loop-i.invariant.1 (start_of c).requires.1.1.0
 
   pub lay_compound_mul_atoms : lts.Need-offset_bounds-atoms-i (lay_compound_claims t) (lay_compound_at t) lay-compound.Post
       lay_compound_Inv_loop lay_compound_μ_loop
@@ -96,7 +96,7 @@ module _ (t : ℕ) where
   lay_compound_add_node_2 c =
       let turn = c.before.before in let s = start_of turn in
       let room = parts_ready (tree s) s.args.spot.node s.args.shape.kind s.args.shape.low
-      s.args.shape.high s.pre.1.1.1 in
+      s.args.shape.high s.requires.1.1.1 in
       omega (arith, (part_ready room turn.loop-i.invariant.0 (part_left turn)).nodes)
 
   pub lay_compound_add_i : lts.Need-overflow_add-i (lay_compound_claims t) (lay_compound_at t) lay-compound.Post
@@ -125,10 +125,10 @@ module _ (t : ℕ) where
   lay_compound_lay_part_requires c κs =
       let turn = c.before.before.before.before.before.before.before in let s = start_of turn in
       let room = parts_ready (tree s) s.args.spot.node s.args.shape.kind s.args.shape.low
-      s.args.shape.high s.pre.1.1.1 in
+      s.args.shape.high s.requires.1.1.1 in
       rw turn.loop-i.invariant.1 (
-        omega (arith, s.pre.0),
-        (s.pre.1.1.0, part_ready room turn.loop-i.invariant.0 (part_left turn)),
+        omega (arith, s.requires.0),
+        (s.requires.1.1.0, part_ready room turn.loop-i.invariant.0 (part_left turn)),
       )
 
   pub lay_compound_mul_atoms_2 : lts.Need-offset_bounds-atoms-i-else-place-lt-NO_PLACE (lay_compound_claims t) (lay_compound_at t) lay-compound.Post
@@ -145,11 +145,11 @@ module _ (t : ℕ) where
 
   pub lay_compound_add_i_2 : lts.Need-overflow_add-i-else-place-lt-NO_PLACE (lay_compound_claims t) (lay_compound_at t) lay-compound.Post
       lay_compound_Inv_loop lay_compound_μ_loop
-  lay_compound_add_i_2 c = omega (arith, (turn_of c).loop-test.true)
+  lay_compound_add_i_2 c = omega (arith, (turn_of c).loop-i-test.true)
 
   pub lay_compound_loop_less_2 : lts.Need-loop-i-smaller (lay_compound_claims t) (lay_compound_at t) lay-compound.Post
       lay_compound_Inv_loop lay_compound_μ_loop
-  lay_compound_loop_less_2 c = omega (arith, (turn_of c).loop-test.true)
+  lay_compound_loop_less_2 c = omega (arith, (turn_of c).loop-i-test.true)
 
   pub lay_compound_loop_again_2 : lts.Need-loop-i-preserved (lay_compound_claims t) (lay_compound_at t) lay-compound.Post
       lay_compound_Inv_loop lay_compound_μ_loop
@@ -169,13 +169,13 @@ module _ (t : ℕ) where
       let s = listed_from listed in
       let a = s.args in
       rw end.1 (
-        omega (arith, s.pre.0),
+        omega (arith, s.requires.0),
         (
           looping,
           (
-            s.pre.1.1.0,
+            s.requires.1.1.0,
             pass_ready a.operands.now a.results.now (tree s) a.spot.node a.shape.kind a.shape.low
-                a.shape.high s.pre.1.1.1 end.0 (all_listed listed) looping,
+                a.shape.high s.requires.1.1.1 end.0 (all_listed listed) looping,
           ),
         ),
       )
@@ -187,7 +187,7 @@ module _ (t : ℕ) where
       let s = listed_from listed in
       let a = s.args in (
         rw c.lay_pass.ensures.0 (loop_laid a.operands.now a.results.now (tree s) a.spot.node
-            a.shape.kind a.shape.low a.shape.high s.pre.1.1.1 end.0 (all_listed listed)
+            a.shape.kind a.shape.low a.shape.high s.requires.1.1.1 end.0 (all_listed listed)
             (sym listed.is_loop.ensures ∙ c.if-is_loop.true) (rw end.1 at c.lay_pass.ensures.1.0)),
         c.lay_pass.ensures.1.1 ∙ end.1,
       )
@@ -198,8 +198,8 @@ module _ (t : ℕ) where
       let listed = c.before.before.before.before.before.before in let s = listed_from listed in
       let a = s.args in
       leaf_ready a.operands.now a.results.now (tree s) a.spot.node a.shape.kind a.shape.low
-      a.shape.high s.pre.1.1.1 listed.loop-i.invariant.0 (all_listed listed)
-      (sym listed.is_loop.ensures ∙ c.if-is_loop.false) s.pre.1.0
+      a.shape.high s.requires.1.1.1 listed.loop-i.invariant.0 (all_listed listed)
+      (sym listed.is_loop.ensures ∙ c.if-is_loop.false) s.requires.1.0
 
   pub lay_compound_returns_2 : lts.Need-returns (lay_compound_claims t) (lay_compound_at t) lay-compound.Post
       lay_compound_Inv_loop lay_compound_μ_loop
@@ -209,8 +209,8 @@ module _ (t : ℕ) where
       let s = listed_from listed in
       let a = s.args in (
         rw leaf.0.0 (leaf_laid a.operands.now a.results.now (tree s) a.spot.node a.shape.kind
-            a.shape.low a.shape.high s.pre.1.1.1 end.0 (all_listed listed)
-            (sym listed.is_loop.ensures ∙ c.if-is_loop.false) s.pre.1.0 (rw leaf.0.0 at leaf.0.1)
+            a.shape.low a.shape.high s.requires.1.1.1 end.0 (all_listed listed)
+            (sym listed.is_loop.ensures ∙ c.if-is_loop.false) s.requires.1.0 (rw leaf.0.0 at leaf.0.1)
             leaf.1.0 leaf.1.1),
         end.1,
       )

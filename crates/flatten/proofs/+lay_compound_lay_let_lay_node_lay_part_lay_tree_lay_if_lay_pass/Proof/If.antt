@@ -25,7 +25,7 @@ module _ (t : ℕ) where
   place : (c : Guarded) → (c.lay_part-guard.result.n < 256) × (c.lay_part-guard.result.p + 6 ≤ 2040)
   place c =
       let s = start_of c in
-      if_place s.args.operands.now _ (tree s) s.pre.1.1 c.lay_part-guard.ensures.0
+      if_place s.args.operands.now _ (tree s) s.requires.1.1 c.lay_part-guard.ensures.0
 
   pub lay_if_lay_part_requires : lts.Need-lay_part-guard-requires (lay_if_claims t) (lay_if_at t) lay-if.Post
   lay_if_lay_part_requires c κs =
@@ -47,10 +47,10 @@ module _ (t : ℕ) where
       let guard = c.lay_part-guard.ensures in
       let s = start_of c.before.before.before.before.before.before.before.before.before.before.before.before in
       rw c.spot_at-first.ensures (
-        omega (arith, s.pre.0),
+        omega (arith, s.requires.0),
         (
-          given_same _ s.pre.1.0 guard.1,
-          rw guard.1 (if_own _ _ (tree s) s.pre.1.1 guard.0 c.open_if.ensures),
+          given_same _ s.requires.1.0 guard.1,
+          rw guard.1 (if_own _ _ (tree s) s.requires.1.1 guard.0 c.open_if.ensures),
         ),
       )
 
@@ -64,7 +64,7 @@ module _ (t : ℕ) where
       let s = start_of c.before.before.before.before.before.before.before.before.before.before.before.before.before.before.before in
       let own = rw (c.spot_at-first.ensures, guard.1) at c.lay_tree-own.ensures.0 in (
         omega (arith, (place c.before.before.before.before.before.before.before.before.before.before.before.before.before.before.before).1),
-        omega (arith, if_middle _ _ (tree s) s.pre.1.1 guard.0 c.open_if.ensures own),
+        omega (arith, if_middle _ _ (tree s) s.requires.1.1 guard.0 c.open_if.ensures own),
       )
 
   pub lay_if_lay_tree_requires_2 : lts.Need-lay_tree-other-requires (lay_if_claims t) (lay_if_at t) lay-if.Post
@@ -74,10 +74,10 @@ module _ (t : ℕ) where
       let s = start_of c.before.before.before.before.before.before.before.before.before.before.before.before.before.before.before.before.before.before.before.before.before.before in
       let own = rw (c.spot_at-first.ensures, guard.1) at first.0 in
       rw c.spot_at-second.ensures (
-        omega (arith, s.pre.0),
+        omega (arith, s.requires.0),
         (
-          given_same _ s.pre.1.0 (first.1 ∙ guard.1),
-          rw (first.1 ∙ guard.1) (if_other _ _ (tree s) s.pre.1.1 guard.0 c.open_if.ensures own
+          given_same _ s.requires.1.0 (first.1 ∙ guard.1),
+          rw (first.1 ∙ guard.1) (if_other _ _ (tree s) s.requires.1.1 guard.0 c.open_if.ensures own
               c.put_middle.ensures),
         ),
       )
@@ -86,16 +86,16 @@ module _ (t : ℕ) where
   lay_if_close_line_requires c κs =
       let first = c.lay_tree-own.ensures in
       let guard = c.lay_part-guard.ensures in
-      let s = start_of c.before.before.before.before.before.before.before.before.before.before.before.before.before.before.before.before.before.before.before.before.before.before.before.before.before.before.before in
+      let s = start_of c.before.before.before.before.before.before.before.before.before.before.before.before.before.before.before.before.before.before.before.before.before.before.before.before.before.before in
       let own = rw (c.spot_at-first.ensures, guard.1) at first.0 in
       let other = rw (c.spot_at-second.ensures, first.1 ∙ guard.1) at c.lay_tree-other.ensures.0 in
-      let room = place c.before.before.before.before.before.before.before.before.before.before.before.before.before.before.before.before.before.before.before.before.before.before.before.before.before.before.before in (
+      let room = place c.before.before.before.before.before.before.before.before.before.before.before.before.before.before.before.before.before.before.before.before.before.before.before.before.before.before in (
         room.0,
         (
           omega (arith, room.1),
           omega (
             arith,
-            if_end _ _ (tree s) s.pre.1.1 guard.0 c.open_if.ensures own
+            if_end _ _ (tree s) s.requires.1.1 guard.0 c.open_if.ensures own
                 c.put_middle.ensures other,
           ),
         ),
@@ -106,10 +106,10 @@ module _ (t : ℕ) where
       let second = c.lay_tree-other.ensures in
       let first = c.lay_tree-own.ensures in
       let guard = c.lay_part-guard.ensures in
-      let s = start_of c.before.before.before.before.before.before.before.before.before.before.before.before.before.before.before.before.before.before.before.before.before.before.before.before.before.before.before.before in
+      let s = start_of c.before.before.before.before.before.before.before.before.before.before.before.before.before.before.before.before.before.before.before.before.before.before.before.before.before.before.before in
       let own = rw (c.spot_at-first.ensures, guard.1) at first.0 in
       let other = rw (c.spot_at-second.ensures, first.1 ∙ guard.1) at second.0 in (
-        rw c.close_line.ensures.0 (if_laid _ _ (tree s) s.pre.1.1 guard.0 c.open_if.ensures own
+        rw c.close_line.ensures.0 (if_laid _ _ (tree s) s.requires.1.1 guard.0 c.open_if.ensures own
             c.put_middle.ensures other _ c.depth_of-depth.ensures
             c.close_line.ensures.1.0 c.close_line.ensures.1.1),
         second.1 ∙ first.1 ∙ guard.1,

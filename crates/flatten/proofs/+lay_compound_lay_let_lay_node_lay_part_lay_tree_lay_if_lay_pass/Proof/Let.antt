@@ -21,7 +21,7 @@ module _ (t : ℕ) where
   Aimed = lts.After-spot_at-second (lay_let_claims t) (lay_let_at t) lay-let.Post
 
   abbrev start_of : Aimed → Start
-  start_of c = c.before.before.before.before.before.before.before.before.before.before
+  start_of c = c.before.before.before.before.before.before.before.before.before.before.before
 
   -- the second part is laid
   abbrev Laid : Type 0
@@ -43,10 +43,10 @@ module _ (t : ℕ) where
       let s = start_of aim in
       let a = s.args in
       rw aim.spot_at-second.ensures (
-        omega (arith, s.pre.0),
+        omega (arith, s.requires.0),
         (
-          given_bound _ a.x _ (given_same _ s.pre.1.0 first.1) refl,
-          let_second _ _ (tree s) a.x a.places.now s.pre.1.1 _ s.pre.1.0.long
+          given_bound _ a.x _ (given_same _ s.requires.1.0 first.1) refl,
+          let_second _ _ (tree s) a.x a.places.now s.requires.1.1 _ s.requires.1.0.long
               (omega (arith, s.fits.x)) first.1 first.0,
         ),
       )
@@ -63,7 +63,7 @@ module _ (t : ℕ) where
       let first = aim.lay_part-first.ensures in
       let s = start_of aim in
       let a = s.args in (
-        let_laid _ _ (tree s) a.x a.places.now s.pre.1.1 _ s.pre.1.0.long
+        let_laid _ _ (tree s) a.x a.places.now s.requires.1.1 _ s.requires.1.0.long
             (omega (arith, s.fits.x)) first.1 first.0
             (rw aim.spot-at.ensures at c.lay_part-r.ensures.0),
         put_back 0 _ _ _ _ _ first.1 c.lay_part-r.ensures.1,

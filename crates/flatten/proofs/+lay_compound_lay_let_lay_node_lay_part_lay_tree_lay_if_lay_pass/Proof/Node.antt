@@ -28,18 +28,18 @@ module _ (t : ℕ) where
 
     is_let : s.args.shape.kind ≡ 7 → tree s s.args.levels s.args.spot.node
         ≡ let_from (tree s (s.args.levels - 1)) s.args.shape.low (s.args.spot.node + 1)
-    is_let = let_is _ _ _ _ s.pre.1.0.deep (fits_seen s.pre.1.0)
+    is_let = let_is _ _ _ _ s.requires.1.0.deep (fits_seen s.requires.1.0)
 
     is_if : s.args.shape.kind ≡ 12 → tree s s.args.levels s.args.spot.node
         ≡ if_from (tree s (s.args.levels - 1)) (s.args.spot.node + 1)
-    is_if = if_is _ _ _ _ s.pre.1.0.deep (fits_seen s.pre.1.0)
+    is_if = if_is _ _ _ _ s.requires.1.0.deep (fits_seen s.requires.1.0)
 
     is_compound : NoneOf (12 ∷ 7 ∷ 3 ∷ 2 ∷ []) s.args.shape.kind →
         tree s s.args.levels s.args.spot.node ≡ compound (tree s (s.args.levels - 1)) s.args.shape.kind
         s.args.shape.low s.args.shape.high (s.args.spot.node + 1)
     is_compound n =
-        let seen = fits_seen s.pre.1.0 in
-        compound_is _ _ _ _ s.pre.1.0.deep seen (compound_as seen n)
+        let seen = fits_seen s.requires.1.0 in
+        compound_is _ _ _ _ s.requires.1.0.deep seen (compound_as seen n)
 
       -- in the arms of a let, an if and all others
   abbrev let_arm : lts.After-spot_at (lay_node_claims t) (lay_node_at t) lay-node.Post →
@@ -78,10 +78,10 @@ module _ (t : ℕ) where
       let s = (let_arm c).before.before.before in
       let node = s.args.spot.node in
       rw c.spot_at.ensures (
-        omega (arith, s.pre.0, s.pre.1.0.deep),
+        omega (arith, s.requires.0, s.requires.1.0.deep),
         (
-          s.pre.1.1.0,
-          ready_as _ node _ s.pre.1.1.1 (is_let s (let_arm c).match.keys3) (let_after _ node _ _),
+          s.requires.1.1.0,
+          ready_as _ node _ s.requires.1.1.1 (is_let s (let_arm c).in-7.is) (let_after _ node _ _),
         ),
       )
 
@@ -97,10 +97,10 @@ module _ (t : ℕ) where
       let s = (if_arm c).before.before.before in
       let node = s.args.spot.node in
       rw c.spot_at-in-12.ensures (
-        omega (arith, s.pre.0, s.pre.1.0.deep),
+        omega (arith, s.requires.0, s.requires.1.0.deep),
         (
-          s.pre.1.1.0,
-          ready_as _ node _ s.pre.1.1.1 (is_if s (if_arm c).match.keys4) (if_after node _ _ _),
+          s.requires.1.1.0,
+          ready_as _ node _ s.requires.1.1.1 (is_if s (if_arm c).in-12.is) (if_after node _ _ _),
         ),
       )
 
@@ -111,11 +111,11 @@ module _ (t : ℕ) where
       lts.Need-lay_compound-requires (lay_node_claims t) (lay_node_at t) lay-node.Post
   lay_node_lay_compound_requires c κs =
       let s = (other_arm c).before.before.before in
-      let none = (other_arm c).match.rest in (
-        omega (arith, s.pre.0, s.pre.1.0.deep),
+      let none = (other_arm c).in_default.in_default-own.rest in (
+        omega (arith, s.requires.0, s.requires.1.0.deep),
         (
-          (compound_as (fits_seen s.pre.1.0) none).counted,
-          (s.pre.1.1.0, ready_as _ s.args.spot.node _ s.pre.1.1.1 (is_compound s none) refl),
+          (compound_as (fits_seen s.requires.1.0) none).counted,
+          (s.requires.1.1.0, ready_as _ s.args.spot.node _ s.requires.1.1.1 (is_compound s none) refl),
         ),
       )
 
@@ -140,7 +140,7 @@ module _ (t : ℕ) where
         rw c.atom_out-in-3.ensures (name_laid a.operands.now _ a.places.now a.levels a.spot.node _
             a.shape.low (name_is _ _ _ _ c.requires.1.0.deep seen c.in-3.is)
             (any_default a.places.now a.shape.low c.requires.1.1.0.long
-            c.well_formed.1.1.1.1.1.1.1.1.0.1.1.1.0.1)
+            c.before.before.before.before.before.well_formed.1.1.1.1.1.1.1.1.0.1.1.1.0.1)
             c.requires.1.1.1.sized),
         refl,
       )
@@ -149,7 +149,7 @@ module _ (t : ℕ) where
   lay_node_returns_3 c =
       let arm = let_arm c.before in
       let s = arm.before.before.before in let node = s.args.spot.node in (
-        ready_made _ _ s.args.levels node (is_let s arm.match.keys3) (omega (arith, s.pre.1.0.deep))
+        ready_made _ _ s.args.levels node (is_let s arm.match.keys3) (omega (arith, s.requires.1.0.deep))
             (let_after _ node _ _) (rw c.spot_at.ensures at c.lay_let.ensures.0),
         c.lay_let.ensures.1,
       )
@@ -158,7 +158,7 @@ module _ (t : ℕ) where
   lay_node_returns_4 c =
       let arm = if_arm c.before in
       let s = arm.before.before.before in let node = s.args.spot.node in (
-        ready_made _ _ s.args.levels node (is_if s arm.match.keys4) (omega (arith, s.pre.1.0.deep))
+        ready_made _ _ s.args.levels node (is_if s arm.match.keys4) (omega (arith, s.requires.1.0.deep))
             (if_after node _ _ _) (rw c.spot_at-in-12.ensures at c.lay_if.ensures.0),
         c.lay_if.ensures.1,
       )
@@ -168,6 +168,6 @@ module _ (t : ℕ) where
       let arm = other_arm c.before in
       let s = arm.before.before.before in (
         ready_made _ _ s.args.levels s.args.spot.node (is_compound s arm.match.rest)
-            (omega (arith, s.pre.1.0.deep)) refl c.lay_compound.ensures.0,
+            (omega (arith, s.requires.1.0.deep)) refl c.lay_compound.ensures.0,
         c.lay_compound.ensures.1,
       )

@@ -42,44 +42,44 @@ module _ (t : ℕ) where
 
   pub lay_part_lay_node_requires : lts.Need-lay_node-requires (lay_part_claims t) (lay_part_at t) lay-part.Post
   lay_part_lay_node_requires c κs =
-      let looked = c.before.before.before.before.before in let s = start_of looked in (
-        omega (arith, s.pre.0),
+      let looked = c.before.before.before.before.before.before in let s = start_of looked in (
+        omega (arith, s.requires.0),
         (
           record {
             deep = looked.if-levels-eq0.false;
             stands = rw c.in-Fits.is at looked.node_at.ensures;
           },
-          s.pre.1,
+          s.requires.1,
         ),
       )
 
   pub lay_part_atom_out_requires_2 : lts.Need-atom_out-requires-in-WrongKind (lay_part_claims t) (lay_part_at t) lay-part.Post
-  lay_part_atom_out_requires_2 c κs = node_inside (start_of c)
+  lay_part_atom_out_requires_2 c κs = node_inside (start_of c.before)
 
   pub lay_part_atom_out_requires_3 : lts.Need-atom_out-requires-in-WrongOperand (lay_part_claims t) (lay_part_at t) lay-part.Post
-  lay_part_atom_out_requires_3 c κs = node_inside (start_of c)
+  lay_part_atom_out_requires_3 c κs = node_inside (start_of c.before)
 
   pub lay_part_returns_2 : lts.Need-returns-in-Fits (lay_part_claims t) (lay_part_at t) lay-part.Post
   lay_part_returns_2 c = c.lay_node.ensures
 
   pub lay_part_returns_3 : lts.Need-returns-in-WrongKind (lay_part_claims t) (lay_part_at t) lay-part.Post
   lay_part_returns_3 c =
-      let looked = c.before in let s = start_of looked in
+      let looked = c.before.before in let s = start_of looked in
       let a = s.args in (
         rw c.atom_out-in-WrongKind.ensures (number_laid _ _ a.levels a.spot.node 65535 (pos 0)
             (wrong_tree a.kinds.now a.operands.now a.levels a.spot.node looked.if-levels-eq0.false
             looked.node_at.result looked.node_at.ensures (inl c.in-WrongKind.is))
-            (nowhere_placed a.operands.now (file_fits s)) s.pre.1.1.sized),
+            (nowhere_placed a.operands.now (file_fits s)) s.requires.1.1.sized),
         refl,
       )
 
   pub lay_part_returns_4 : lts.Need-returns-in-WrongOperand (lay_part_claims t) (lay_part_at t) lay-part.Post
   lay_part_returns_4 c =
-      let looked = c.before in let s = start_of looked in
+      let looked = c.before.before in let s = start_of looked in
       let a = s.args in (
         rw c.atom_out-in-WrongOperand.ensures (number_laid _ _ a.levels a.spot.node 65535 (pos 0)
             (wrong_tree a.kinds.now a.operands.now a.levels a.spot.node looked.if-levels-eq0.false
             looked.node_at.result looked.node_at.ensures (inr c.in-WrongOperand.is))
-            (nowhere_placed a.operands.now (file_fits s)) s.pre.1.1.sized),
+            (nowhere_placed a.operands.now (file_fits s)) s.requires.1.1.sized),
         refl,
       )

@@ -20,10 +20,10 @@ module _ (t : ℕ) where
         a.places.now s.requires.1.0 s.requires.1.1.1
 
     low_fits : s.args.shape.low < 256
-    low_fits = s.good.1.1.1.1.1.1.1.1.0.1.1.1.0.1
+    low_fits = s.well_formed.1.1.1.1.1.1.1.1.0.1.1.1.0.1
 
     high_fits : s.args.shape.high < 256
-    high_fits = s.good.1.1.1.1.1.1.1.1.0.1.1.1.1.0.1
+    high_fits = s.well_formed.1.1.1.1.1.1.1.1.0.1.1.1.1.0.1
 
       -- the loop's row is laid and its names are bound
   abbrev Bound : Type 0
@@ -46,12 +46,12 @@ module _ (t : ℕ) where
       let s = start_of c.before.before.before.before.before in
       let a = s.args in
       rw head.0.0 (
-        omega (arith, s.pre.0),
+        omega (arith, s.requires.0),
         (
-          given_bound_twice _ _ _ _ _ s.pre.1.1.0 bound.0,
+          given_bound_twice _ _ _ _ _ s.requires.1.1.0 bound.0,
           pass_tree a.operands.now _ a.shape.kind a.shape.low a.shape.high a.atoms.now
-              a.places.now s.pre.1.0 s.pre.1.1.1 head.1.0 (rw head.0.0 at head.0.1)
-              head.1.1 _ s.pre.1.1.0.long (low_fits s) (high_fits s) bound.0,
+              a.places.now s.requires.1.0 s.requires.1.1.1 head.1.0 (rw head.0.0 at head.0.1)
+              head.1.1 _ s.requires.1.1.0.long (low_fits s) (high_fits s) bound.0,
         ),
       )
 
@@ -68,8 +68,8 @@ module _ (t : ℕ) where
       let s = start_of bound in
       let a = s.args in
       pass_deep a.operands.now _ a.shape.kind a.shape.low a.shape.high a.atoms.now
-      a.places.now s.pre.1.0 s.pre.1.1.1 head.1.0 (rw head.0.0 at head.0.1) head.1.1 _
-      s.pre.1.1.0.long (low_fits s) (high_fits s) bound.bind_pass-old.ensures.0
+      a.places.now s.requires.1.0 s.requires.1.1.1 head.1.0 (rw head.0.0 at head.0.1) head.1.1 _
+      s.requires.1.1.0.long (low_fits s) (high_fits s) bound.bind_pass-old.ensures.0
       (rw head.0.0 at c.lay_tree-tree.ensures.0)
 
   pub lay_pass_close_line_requires : lts.Need-close_line-requires (lay_pass_claims t) (lay_pass_at t) lay-pass.Post
@@ -81,8 +81,8 @@ module _ (t : ℕ) where
         (
           omega (arith, (place s).1),
           pass_end a.operands.now _ a.shape.kind a.shape.low a.shape.high a.atoms.now
-              a.places.now s.pre.1.0 s.pre.1.1.1 head.1.0 (rw head.0.0 at head.0.1)
-              head.1.1 _ s.pre.1.1.0.long (low_fits s) (high_fits s) bound.bind_pass-old.ensures.0
+              a.places.now s.requires.1.0 s.requires.1.1.1 head.1.0 (rw head.0.0 at head.0.1)
+              head.1.1 _ s.requires.1.1.0.long (low_fits s) (high_fits s) bound.bind_pass-old.ensures.0
               (rw head.0.0 at c.lay_tree-tree.ensures.0),
         ),
       )
@@ -98,8 +98,8 @@ module _ (t : ℕ) where
         c.close_line.ensures.0 ∙ rw (made.next, made.count, made.reach),
         (
           pass_laid a.operands.now _ a.shape.kind a.shape.low a.shape.high a.atoms.now
-              a.places.now s.pre.1.0 s.pre.1.1.1 head.1.0 (rw head.0.0 at head.0.1)
-              head.1.1 _ s.pre.1.1.0.long (low_fits s) (high_fits s) names.0 made _
+              a.places.now s.requires.1.0 s.requires.1.1.1 head.1.0 (rw head.0.0 at head.0.1)
+              head.1.1 _ s.requires.1.1.0.long (low_fits s) (high_fits s) names.0 made _
               c.depth_of_loop-depth.ensures c.close_line.ensures.1.0
               c.close_line.ensures.1.1,
           c.unbind_pass.ensures ∙ rw (names.1.0, names.1.1)

@@ -9,13 +9,12 @@ use Rattle.lent_fit_lines.proofs.opening.open_loop.Statement.{statement}
 use Rattle.lent_fit_lines.proofs.opening.open_loop.Tie as tie
 
 gather_requires : tie.Need-gather-requires
-gather_requires c κs =
-    (
-      c.requires.0,
-      omega (arith, c.requires.1),
-      omega (arith, c.loop_atoms-n.ensures, (count_few (loop_of c.args.kind)).1),
-      refl,
-    )
+gather_requires c κs = (
+  c.requires.0,
+  omega (arith, c.requires.1),
+  omega (arith, c.loop_atoms-n.ensures, (count_few (loop_of c.args.kind)).1),
+  refl,
+)
 
 returns : tie.Need-returns-then-not-gather
 returns c =

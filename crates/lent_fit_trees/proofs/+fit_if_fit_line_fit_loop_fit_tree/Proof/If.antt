@@ -21,9 +21,9 @@ module _ (t : ℕ) where
       let a = c.args in
       record {
         is = if_closed a.kinds.now a.operands.now a.starts.now
-            (tree_fits a.kinds.now a.operands.now a.starts.now a.levels) (set_of a.t6)
+            (tree_fits a.kinds.now a.operands.now a.starts.now a.levels) (set_of a.scope)
             (bound_of a.bound.now a.depths.now) a.at c.open_if.ensures
-            (not-true _ c.if-not-open_if.true);
+            c.if-not-open_if.true;
         long = c.open_if.ensures.long;
         deep = c.open_if.ensures.deep;
       }
@@ -33,34 +33,32 @@ module _ (t : ℕ) where
       omega (arith, c.requires.1.0.cut.2, c.requires.1.2)
 
   pub fit_tree_requires : Here lts.Need-fit_tree-requires
-  fit_tree_requires c κs =
-      (
-        omega (arith, c.requires.0),
-        (
-          record {
-            cut = c.requires.1.0.cut;
-            places = c.requires.1.0.places;
-            long = c.open_if.ensures.long;
-            deep = c.open_if.ensures.deep;
-          },
-          c.requires.1.1,
-        ),
-      )
+  fit_tree_requires c κs = (
+    omega (arith, c.requires.0),
+    (
+      record {
+        cut = c.requires.1.0.cut;
+        places = c.requires.1.0.places;
+        long = c.open_if.ensures.long;
+        deep = c.open_if.ensures.deep;
+      },
+      c.requires.1.1,
+    ),
+  )
 
   pub fit_tree_requires_2 : Here lts.Need-fit_tree-requires-in-Fits
-  fit_tree_requires_2 c κs =
-      (
-        omega (arith, c.requires.0),
-        (
-          record {
-            cut = c.requires.1.0.cut;
-            places = c.requires.1.0.places;
-            long = c.fit_tree.ensures.long;
-            deep = c.fit_tree.ensures.deep;
-          },
-          c.requires.1.1,
-        ),
-      )
+  fit_tree_requires_2 c κs = (
+    omega (arith, c.requires.0),
+    (
+      record {
+        cut = c.requires.1.0.cut;
+        places = c.requires.1.0.places;
+        long = c.fit_tree.ensures.long;
+        deep = c.fit_tree.ensures.deep;
+      },
+      c.requires.1.1,
+    ),
+  )
 
   pub bind_requires : Here lts.Need-bind-requires
   bind_requires c κs =
@@ -71,9 +69,9 @@ module _ (t : ℕ) where
       let a = c.args in
       record {
         is = if_done a.kinds.now a.operands.now a.starts.now
-            (tree_fits a.kinds.now a.operands.now a.starts.now a.levels) (set_of a.t6)
+            (tree_fits a.kinds.now a.operands.now a.starts.now a.levels) (set_of a.scope)
             (bound_of a.bound.now a.depths.now) a.at c.open_if.ensures
-            (not-false _ c.if-not-open_if.false) c.fit_tree.result _ _
+            c.if-not-open_if.false c.fit_tree.result _ _
             c.fit_tree.ensures.is _ _
             c.in-Fits.is c.fit_tree-in-Fits.result _ _ c.fit_tree-in-Fits.ensures.is _ _
             c.in-Fits-fit_tree.is c.first_at.result c.first_at.ensures c.bind.new.bound
@@ -87,9 +85,9 @@ module _ (t : ℕ) where
       let a = c.args in
       record {
         is = if_second a.kinds.now a.operands.now a.starts.now
-            (tree_fits a.kinds.now a.operands.now a.starts.now a.levels) (set_of a.t6)
+            (tree_fits a.kinds.now a.operands.now a.starts.now a.levels) (set_of a.scope)
             (bound_of a.bound.now a.depths.now) a.at c.open_if.ensures
-            (not-false _ c.if-not-open_if.false) c.fit_tree.result _ _
+            c.if-not-open_if.false c.fit_tree.result _ _
             c.fit_tree.ensures.is _ _
             c.in-Fits.is c.fit_tree-in-Fits.result _ _ c.fit_tree-in-Fits.ensures.is _
             c.in-Fault-fit_tree.is;
@@ -102,9 +100,9 @@ module _ (t : ℕ) where
       let a = c.args in
       record {
         is = if_first a.kinds.now a.operands.now a.starts.now
-            (tree_fits a.kinds.now a.operands.now a.starts.now a.levels) (set_of a.t6)
+            (tree_fits a.kinds.now a.operands.now a.starts.now a.levels) (set_of a.scope)
             (bound_of a.bound.now a.depths.now) a.at c.open_if.ensures
-            (not-false _ c.if-not-open_if.false) c.fit_tree.result _ _ c.fit_tree.ensures.is _
+            c.if-not-open_if.false c.fit_tree.result _ _ c.fit_tree.ensures.is _
             c.in-Fault.is;
         long = c.fit_tree.ensures.long;
         deep = c.fit_tree.ensures.deep;

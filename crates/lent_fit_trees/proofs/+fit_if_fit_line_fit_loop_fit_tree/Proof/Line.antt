@@ -21,7 +21,7 @@ module _ (t : ℕ) where
       let a = c.args in
       record {
         is = line_if a.kinds.now a.operands.now a.starts.now
-            (tree_fits a.kinds.now a.operands.now a.starts.now a.levels) a.kind (set_of a.t6)
+            (tree_fits a.kinds.now a.operands.now a.starts.now a.levels) a.kind (set_of a.scope)
             (bound_of a.bound.now a.depths.now) a.at c.if-kind-eq-IF.true
             ∙ c.fit_if.ensures.is;
         long = c.fit_if.ensures.long;
@@ -37,7 +37,7 @@ module _ (t : ℕ) where
       let a = c.args in
       record {
         is = line_loop a.kinds.now a.operands.now a.starts.now
-            (tree_fits a.kinds.now a.operands.now a.starts.now a.levels) a.kind (set_of a.t6)
+            (tree_fits a.kinds.now a.operands.now a.starts.now a.levels) a.kind (set_of a.scope)
             (bound_of a.bound.now a.depths.now) a.at c.if-kind-eq-IF.false
             (sym c.loops.ensures ∙ c.if-loops.true)
             ∙ c.fit_loop.ensures.is;
@@ -46,21 +46,20 @@ module _ (t : ℕ) where
       }
 
   pub fit_plain_requires : Here lts.Need-fit_plain-requires
-  fit_plain_requires c κs =
-      (
-        c.requires.1.0.cut,
-        c.requires.1.2,
-        c.requires.1.0.places,
-        c.requires.1.0.long,
-        c.requires.1.0.deep,
-      )
+  fit_plain_requires c κs = (
+    c.requires.1.0.cut,
+    c.requires.1.2,
+    c.requires.1.0.places,
+    c.requires.1.0.long,
+    c.requires.1.0.deep,
+  )
 
   pub returns_3 : Here lts.Need-returns
   returns_3 c =
       let a = c.args in
       record {
         is = line_plain a.kinds.now a.operands.now a.starts.now
-            (tree_fits a.kinds.now a.operands.now a.starts.now a.levels) a.kind (set_of a.t6)
+            (tree_fits a.kinds.now a.operands.now a.starts.now a.levels) a.kind (set_of a.scope)
             (bound_of a.bound.now a.depths.now) a.at c.if-kind-eq-IF.false
             (sym c.loops.ensures ∙ c.if-loops.false)
             ∙ c.fit_plain.ensures.is;

@@ -33,19 +33,18 @@ module _ (t : ℕ) where
       )
 
   pub fit_tree_requires : Here lts.Need-fit_tree-requires
-  fit_tree_requires c κs =
-      (
-        omega (arith, c.requires.0),
-        (
-          record {
-            cut = c.requires.1.0.cut;
-            places = c.requires.1.0.places;
-            long = c.open_loop.ensures.long;
-            deep = c.open_loop.ensures.deep;
-          },
-          c.open_loop.ensures.wide,
-        ),
-      )
+  fit_tree_requires c κs = (
+    omega (arith, c.requires.0),
+    (
+      record {
+        cut = c.requires.1.0.cut;
+        places = c.requires.1.0.places;
+        long = c.open_loop.ensures.long;
+        deep = c.open_loop.ensures.deep;
+      },
+      c.open_loop.ensures.wide,
+    ),
+  )
 
   pub bind_requires : Here lts.Need-bind-requires
   bind_requires c κs =

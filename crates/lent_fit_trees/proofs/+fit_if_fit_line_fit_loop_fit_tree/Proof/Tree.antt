@@ -72,20 +72,19 @@ module _ (t : ℕ) where
       omega (arith, c.if-levels-eq0.false)
 
   pub fit_line_requires : Here lts.Need-fit_line-requires
-  fit_line_requires c κs =
-      (
-        omega (arith, c.requires.0, c.if-levels-eq0.false),
-        (
-          record {
-            cut = c.requires.1.0.cut;
-            places = c.requires.1.0.places;
-            long = c.loop-left.invariant.long;
-            deep = c.loop-left.invariant.deep;
-          },
-          c.loop-left.invariant.wide,
-          omega (arith, c.if-kinds-p.false),
-        ),
-      )
+  fit_line_requires c κs = (
+    omega (arith, c.requires.0, c.if-levels-eq0.false),
+    (
+      record {
+        cut = c.requires.1.0.cut;
+        places = c.requires.1.0.places;
+        long = c.loop-left.invariant.long;
+        deep = c.loop-left.invariant.deep;
+      },
+      c.loop-left.invariant.wide,
+      omega (arith, c.if-kinds-p.false),
+    ),
+  )
 
   pub returns_4 : Here lts.Need-returns-in-Bad
   returns_4 c =
@@ -101,22 +100,27 @@ module _ (t : ℕ) where
   pub loop_again : Here lts.Need-loop-left-preserved
   loop_again c =
       let a = c.args in
-      ⊎_elim (λ w. going_on a.kinds.now a.operands.now a.starts.now c.loop-left.invariant
-      c.loop-left-test.true (omega (arith, c.if-kinds-p.false)) c.if-kind-eq-END.false
-      c.fit_line.result _ _ c.fit_line.ensures.is c.if-binds.p
-      (c.in-Next.is ∙ ap Next (sym w.3)) c.if-binds.s (rw w.2 (simp length-set c.loop-left.invariant.wide))
-      c.fit_line.ensures.long c.fit_line.ensures.deep (ap set_of w.2
-      ∙ scope_bound a.kinds.now a.operands.now a.starts.now (get_or a.kinds.now c.loop-left.p 0)
-      (first_at a.operands.now c.loop-left.p) c.loop-left.s
-      (sym c.binds.ensures ∙ w.0.taken) w.1.result w.1.ensures
-      (omega (arith, c.loop-left.invariant.wide))) _ refl) (λ w. going_on a.kinds.now a.operands.now
-      a.starts.now c.loop-left.invariant c.loop-left-test.true (omega (arith, c.if-kinds-p.false))
-      c.if-kind-eq-END.false c.fit_line.result _ _ c.fit_line.ensures.is c.if-binds.p
-      (c.in-Next.is ∙ ap Next (sym w.2)) c.if-binds.s (ap length w.1 ∙ c.loop-left.invariant.wide)
-      c.fit_line.ensures.long c.fit_line.ensures.deep (ap set_of w.1
-      ∙ scope_same a.kinds.now a.operands.now a.starts.now (get_or a.kinds.now c.loop-left.p 0)
-      (first_at a.operands.now c.loop-left.p) c.loop-left.s
-      (sym c.binds.ensures ∙ w.0.left)) _ refl) c.if-binds.branch
+      elim c.if-binds.branch [
+        | lts.then-binds w ↦ going_on a.kinds.now a.operands.now a.starts.now c.loop-left.invariant
+            c.loop-left-test.true (omega (arith, c.if-kinds-p.false)) c.if-kind-eq-END.false
+            c.fit_line.result _ _ c.fit_line.ensures.is c.if-binds.p
+            (c.in-Next.is ∙ ap Next (sym w.p-is)) c.if-binds.s
+            (rw w.s-is (simp length-set c.loop-left.invariant.wide))
+            c.fit_line.ensures.long c.fit_line.ensures.deep (ap set_of w.s-is
+            ∙ scope_bound a.kinds.now a.operands.now a.starts.now (get_or a.kinds.now c.loop-left.p 0)
+            (first_at a.operands.now c.loop-left.p) c.loop-left.s
+            (sym c.binds.ensures ∙ w.if-binds.true) w.first_at.result w.first_at.ensures
+            (omega (arith, c.loop-left.invariant.wide))) _ refl
+        | lts.else-binds w ↦ going_on a.kinds.now a.operands.now a.starts.now c.loop-left.invariant
+            c.loop-left-test.true (omega (arith, c.if-kinds-p.false)) c.if-kind-eq-END.false
+            c.fit_line.result _ _ c.fit_line.ensures.is c.if-binds.p
+            (c.in-Next.is ∙ ap Next (sym w.p-is)) c.if-binds.s
+            (ap length w.s-is ∙ c.loop-left.invariant.wide)
+            c.fit_line.ensures.long c.fit_line.ensures.deep (ap set_of w.s-is
+            ∙ scope_same a.kinds.now a.operands.now a.starts.now (get_or a.kinds.now c.loop-left.p 0)
+            (first_at a.operands.now c.loop-left.p) c.loop-left.s
+            (sym c.binds.ensures ∙ w.if-binds.false)) _ refl
+      ]
 
   pub returns_5 : Here lts.Need-returns
   returns_5 c =

@@ -14,13 +14,13 @@ use Rattle.lent_hold_trees.proofs.+walk_if_walk_line_walk_loop_walk_tree.Lts-wal
 use Rattle.lent_hold_trees.proofs.+walk_if_walk_line_walk_loop_walk_tree.Proof.Common.{walk_if_at}
 use Rattle.lent_hold_trees.proofs.+walk_if_walk_line_walk_loop_walk_tree.Proof.Common.{walk_if_claims}
 
-pub add_walk_tree : (t : ℕ) → walk-if-lts.Need-overflow-add-walk-tree (walk_if_claims t) (walk_if_at t) walk-if.Post
-add_walk_tree t c = let q = c.before.before.before.requires in omega (arith, q.1.0, q.1.1.0.few)
+pub add_walk_tree : (t : ℕ) → walk-if-lts.Need-overflow_add-at (walk_if_claims t) (walk_if_at t) walk-if.Post
+add_walk_tree t c = let q = c.requires in omega (arith, q.1.0, q.1.1.0.few)
 
-pub walk_tree_requires : (t : ℕ) → walk-if-lts.Need-walk-tree-requires (walk_if_claims t) (walk_if_at t) walk-if.Post
+pub walk_tree_requires : (t : ℕ) → walk-if-lts.Need-walk_tree-a-requires (walk_if_claims t) (walk_if_at t) walk-if.Post
 walk_tree_requires t c κs =
-    let a = c.before.before.before.before.before.args in
-    let q = c.before.before.before.before.before.requires in (
+    let a = c.args in
+    let q = c.requires in (
       omega (arith, q.0),
       (
         q.1.1.1.long,
@@ -32,24 +32,24 @@ walk_tree_requires t c κs =
       ),
     )
 
-pub returns : (t : ℕ) → walk-if-lts.Need-returns (walk_if_claims t) (walk_if_at t) walk-if.Post
+pub returns : (t : ℕ) → walk-if-lts.Need-returns-then-not-a (walk_if_claims t) (walk_if_at t) walk-if.Post
 returns t c =
-    let a = c.before.before.before.before.before.before.before.before.args in
-    let q = c.before.before.before.before.before.before.before.before.requires in
-    let walk-tree = c.before.before.walk-tree in
-    fault_again walk-tree.result a.holds.now c.if1.true q.1.1.1.long
+    let a = c.args in
+    let q = c.requires in
+    let walk-tree = c.walk_tree-a in
+    fault_again walk-tree.result a.holds.now c.if-not-a.true q.1.1.1.long
     (if_first (depths a.table.now a.here.f)
     (tree_at a.kinds.now a.operands.now (borrows a.borrowed.now)
     (depths a.table.now a.here.f) a.here.levels) a.x (set_of a.lent.now)
-    (counted a.holds.now) a.at walk-tree.ensures c.if1.true)
+    (counted a.holds.now) a.at walk-tree.ensures c.if-not-a.true)
 
-pub walk_tree_requires_2 : (t : ℕ) → walk-if-lts.Need-walk-tree-requires-2 (walk_if_claims t) (walk_if_at t)
+pub walk_tree_requires_2 : (t : ℕ) → walk-if-lts.Need-walk_tree-b-requires (walk_if_claims t) (walk_if_at t)
     walk-if.Post
 walk_tree_requires_2 t c κs =
-    let a = c.before.before.before.before.before.before.before.before.before.before.args in
-    let q = c.before.before.before.before.before.before.before.before.before.before.requires in
-    let walk-tree = c.before.before.before.before.walk-tree in
-    let if1 = c.before.before.if1 in (
+    let a = c.args in
+    let q = c.requires in
+    let walk-tree = c.walk_tree-a in
+    let if1 = c.if-not-a in (
       omega (arith, q.0),
       (
         walk-tree.ensures.long,
@@ -68,46 +68,46 @@ walk_tree_requires_2 t c κs =
       ),
     )
 
-pub returns_2 : (t : ℕ) → walk-if-lts.Need-returns-2 (walk_if_claims t) (walk_if_at t) walk-if.Post
+pub returns_2 : (t : ℕ) → walk-if-lts.Need-returns-then-not-b (walk_if_claims t) (walk_if_at t) walk-if.Post
 returns_2 t c =
     let a =
-    c.before.before.before.before.before.before.before.before.before.before.before.before.before.args in
-    let walk-tree = c.before.before.before.before.before.before.before.walk-tree in
-    let if1 = c.before.before.before.before.before.if1 in
-    let walk-tree2 = c.before.before.walk-tree2 in
-    fault_again walk-tree2.result walk-tree2.new.1.1.1.1.1.1.1.1.1.1.0 c.if2.true
+    c.args in
+    let walk-tree = c.walk_tree-a in
+    let if1 = c.if-not-a in
+    let walk-tree2 = c.walk_tree-b in
+    fault_again walk-tree2.result walk-tree2.new.holds c.if-not-b.true
     walk-tree2.ensures.long (if_second (depths a.table.now a.here.f)
     (tree_at a.kinds.now a.operands.now (borrows a.borrowed.now)
     (depths a.table.now a.here.f) a.here.levels) a.x (set_of a.lent.now)
-    (counted a.holds.now) a.at walk-tree.ensures if1.false walk-tree2.ensures c.if2.true)
+    (counted a.holds.now) a.at walk-tree.ensures if1.false walk-tree2.ensures c.if-not-b.true)
 
 pub gain_requires : (t : ℕ) → walk-if-lts.Need-gain-requires (walk_if_claims t) (walk_if_at t) walk-if.Post
 gain_requires t c κs =
-    let if1 = c.before.before.before.before.before.before.if1 in
-    let walk-tree = c.before.before.before.before.before.before.before.before.walk-tree in
+    let if1 = c.if-not-a in
+    let walk-tree = c.walk_tree-a in
     let a =
-    c.before.before.before.before.before.before.before.before.before.before.before.before.before.before.args in
+    c.args in
     let q =
-    c.before.before.before.before.before.before.before.before.before.before.before.before.before.before.requires in
+    c.requires in
     let k = (after_tree a.kinds.now a.operands.now (borrows a.borrowed.now)
     (depths a.table.now a.here.f) a.here.levels (set_of a.lent.now) (waiting 256)
     (asked true (set_of a.lent.now) (counted a.holds.now)) (a.at + 2) a.holds.now
     (within (a.at + 2) a.holds.now q.1.1.1 (omega arith)) walk-tree.ensures if1.false) in
     (walk-tree.ensures.long, omega (arith, k.1.1 a.x, k.1.0, q.1.1.0.few))
 
-pub returns_3 : (t : ℕ) → walk-if-lts.Need-returns-3 (walk_if_claims t) (walk_if_at t) walk-if.Post
+pub returns_3 : (t : ℕ) → walk-if-lts.Need-returns (walk_if_claims t) (walk_if_at t) walk-if.Post
 returns_3 t c =
     let a =
-    c.before.before.before.before.before.before.before.before.before.before.before.before.before.before.before.before.args in
+    c.args in
     let walk-tree =
-    c.before.before.before.before.before.before.before.before.before.before.walk-tree in
-    let if1 = c.before.before.before.before.before.before.before.before.if1 in
-    let walk-tree2 = c.before.before.before.before.before.walk-tree2 in
-    let if2 = c.before.before.before.if2 in
-    lined_fine c.passed_to.result walk-tree2.result.at c.before.gain.new.1.1.1.0
-    c.before.gain.ensures.1 (hold_also (depths a.table.now a.here.f) a.x
-    (counted walk-tree.last.1.1.1.1.1.1.1.1.1.1.0)) c.passed_to.ensures
-    c.before.gain.ensures.0 (if_both (depths a.table.now a.here.f)
+    c.walk_tree-a in
+    let if1 = c.if-not-a in
+    let walk-tree2 = c.walk_tree-b in
+    let if2 = c.if-not-b in
+    lined_fine c.passed_to.result walk-tree2.result.at c.gain.new.holds
+    c.gain.ensures.1 (hold_also (depths a.table.now a.here.f) a.x
+    (counted walk-tree.new.holds)) c.passed_to.ensures
+    c.gain.ensures.0 (if_both (depths a.table.now a.here.f)
     (tree_at a.kinds.now a.operands.now (borrows a.borrowed.now)
     (depths a.table.now a.here.f) a.here.levels) a.x (set_of a.lent.now)
     (counted a.holds.now) a.at walk-tree.ensures if1.false walk-tree2.ensures if2.false)

@@ -11,46 +11,44 @@ use Rattle.lent_hold_trees.proofs.+walk_if_walk_line_walk_loop_walk_tree.Lts-wal
 use Rattle.lent_hold_trees.proofs.+walk_if_walk_line_walk_loop_walk_tree.Proof.Common.{walk_line_at}
 use Rattle.lent_hold_trees.proofs.+walk_if_walk_line_walk_loop_walk_tree.Proof.Common.{walk_line_claims}
 
-pub walk_if_requires : (t : ℕ) → walk-line-lts.Need-walk-if-requires (walk_line_claims t) (walk_line_at t)
+pub walk_if_requires : (t : ℕ) → walk-line-lts.Need-walk_if-requires (walk_line_claims t) (walk_line_at t)
     walk-line.Post
-walk_if_requires t c κs = let q = c.before.before.before.before.before.before.requires in (omega (arith, q.0), q.1)
+walk_if_requires t c κs = let q = c.requires in (omega (arith, q.0), q.1)
 
-pub walk_loop_requires : (t : ℕ) → walk-line-lts.Need-walk-loop-requires (walk_line_claims t) (walk_line_at t)
+pub walk_loop_requires : (t : ℕ) → walk-line-lts.Need-walk_loop-requires (walk_line_claims t) (walk_line_at t)
     walk-line.Post
 walk_loop_requires t c κs =
-    let q = c.before.before.before.before.before.before.requires in
+    let q = c.requires in
     (omega (arith, q.0), q.1)
 
-pub walk_leaf_requires : (t : ℕ) → walk-line-lts.Need-walk-leaf-requires (walk_line_claims t) (walk_line_at t)
+pub walk_leaf_requires : (t : ℕ) → walk-line-lts.Need-walk_leaf-requires (walk_line_claims t) (walk_line_at t)
     walk-line.Post
 walk_leaf_requires t c κs =
-    let q = c.before.before.before.before.requires in
+    let q = c.requires in
     (omega (arith, q.1.0, q.1.1.0.few), (q.1.1.0.cut, (q.1.1.0.names, q.1.1.1)))
 
-pub returns : (t : ℕ) → walk-line-lts.Need-returns (walk_line_claims t) (walk_line_at t) walk-line.Post
+pub returns : (t : ℕ) → walk-line-lts.Need-returns-in-If (walk_line_claims t) (walk_line_at t) walk-line.Post
 returns t c =
-    let a = c.before.before.before.before.before.before.before.args in
-    let l = c.before.before.before.l in
-    rw l.given.1 (line_if a.kinds.now a.operands.now (borrows a.borrowed.now)
+    let a = c.args in
+    rw c.in-If.is (line_if a.kinds.now a.operands.now (borrows a.borrowed.now)
     (depths a.table.now a.here.f) (tree_at a.kinds.now a.operands.now
     (borrows a.borrowed.now) (depths a.table.now a.here.f) a.here.levels)
-    (set_of a.lent.now) (waiting a.wait) (counted a.holds.now) a.at _ _ c.walk-if.ensures)
+    (set_of a.lent.now) (waiting a.wait) (counted a.holds.now) a.at _ _ c.walk_if.ensures)
 
-pub returns_2 : (t : ℕ) → walk-line-lts.Need-returns-2 (walk_line_claims t) (walk_line_at t) walk-line.Post
+pub returns_2 : (t : ℕ) → walk-line-lts.Need-returns-in-Loop (walk_line_claims t) (walk_line_at t) walk-line.Post
 returns_2 t c =
-    let a = c.before.before.before.before.before.before.before.args in
-    let l2 = c.before.before.before.l2 in
-    rw l2.given.1 (line_loop a.kinds.now a.operands.now (borrows a.borrowed.now)
+    let a = c.args in
+    rw c.in-Loop.is (line_loop a.kinds.now a.operands.now (borrows a.borrowed.now)
     (depths a.table.now a.here.f) (tree_at a.kinds.now a.operands.now
     (borrows a.borrowed.now) (depths a.table.now a.here.f) a.here.levels)
     (set_of a.lent.now) (waiting a.wait) (counted a.holds.now) a.at _ _ c.walk_loop.ensures)
 
-pub returns_3 : (t : ℕ) → walk-line-lts.Need-returns-3 (walk_line_claims t) (walk_line_at t) walk-line.Post
+pub returns_3 : (t : ℕ) → walk-line-lts.Need-returns-in_default (walk_line_claims t) (walk_line_at t) walk-line.Post
 returns_3 t c =
-    let a = c.before.before.before.before.before.args in
-    let match = c.before.before.match in
+    let a = c.args in
+    let match = c.in_default.in_default-own in
     line_leaf a.kinds.now a.operands.now (borrows a.borrowed.now)
     (depths a.table.now a.here.f) (tree_at a.kinds.now a.operands.now
     (borrows a.borrowed.now) (depths a.table.now a.here.f) a.here.levels)
     (set_of a.lent.now) (waiting a.wait) (counted a.holds.now) a.at a.l match.keys3
-    c.walk-leaf.ensures
+    c.walk_leaf.ensures

@@ -1,5 +1,4 @@
 -- `machine_lines::arrays::append_atoms` meets its contract.
-use Rattle.prelude.specs.Kit.{ap, not}
 use Rattle.prelude.specs.Kit.{◌-◌, arith, ◌≡◌, refl, ◌∙◌, sym, length, rules, not-true, not-false, to_z-of_z}
 use Rattle.semantics.specs.Words.{store_of}
 use Rattle.machine_lines.proofs.Appending.{Appending, appending_none, appending_more, appended_end}
@@ -24,8 +23,7 @@ loop_holds c = let a = c.args in (
 
 returns : tie.Need-returns-then-not-atom_stands invariant_loop decreases_loop
 returns c =
-    appended_end c.loop-n(ap not .invariant.2) (sym c.atom_stands.ensures ∙ not-true
-    c.atom_stands.result c.if-not-atom_stands.true)
+    appended_end c.loop-n.invariant.2 (sym c.atom_stands.ensures ∙ c.if-not-atom_stands.true)
 
 loop_again : tie.Need-loop-n-preserved invariant_loop decreases_loop
 loop_again c =
@@ -36,16 +34,14 @@ loop_again c =
       one.auto.heads ∙ o.invariant.1,
       appending_more o.invariant.2
           c.loop-n-test.true (sym
-          c.atom_stands.ensures ∙ not-false
-          c.atom_stands.result
-          (ap not c.if-not-atom_stands.false))
+          c.atom_stands.ensures ∙ c.if-not-atom_stands.false)
           c.atom_at-a.result word.result
           c.atom_at-a.ensures word.ensures _ (rw
           (to_z-of_z {z
           = word.result} (record { sfits = word.type_inv })) at one.ensures),
     )
 
-returns_2 : tie.Need-returns-then-not-atom_stands invariant_loop decreases_loop
+returns_2 : tie.Need-returns invariant_loop decreases_loop
 returns_2 c = appended_full c.loop-n.invariant.2 (omega arith)
 
 pub append_atoms_spec : {M : Type 1} → statement M

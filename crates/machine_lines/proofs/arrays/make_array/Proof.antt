@@ -41,7 +41,7 @@ cast_n c =
 
 append_elements_requires : tie.Need-append_elements-requires
 append_elements_requires c κs =
-    let at-if2 = c.before.before.before.before.before.before.before.before.before.before in rw (to_z-of_z {z = at-if2.args.count} at-if2.ranges.count) (count_fits at-if2.args.count (counts at-if2)).1
+    let at-if2 = c.before.before.before.before.before.before.before.before.before.before.before.before in rw (to_z-of_z {z = at-if2.args.count} at-if2.ranges.count) (count_fits at-if2.args.count (counts at-if2)).1
 
 word_from_requires : tie.Need-word_from-requires
 word_from_requires c κs =
@@ -55,7 +55,7 @@ word_from_requires c κs =
 
 returns_3 : tie.Need-returns-in-Cell
 returns_3 c =
-    let at-if2 = c.before.before.before.before.before.before.before.before.before.before.before.before.before.before.before.before.before.before.before.before in let a = at-if2.args in
+    let at-if2 = c.before.before.before.before.before.before.before.before.before.before.before.before.before.before.before.before.before.before.before.before.before.before in let a = at-if2.args in
     let σ = store_of a.slots.now a.heads.now in
     let n = nat_abs a.count in
     let ws = elements_by a.counting a.w n in
@@ -80,7 +80,7 @@ returns_3 c =
 
 returns_4 : tie.Need-returns-in-NoneFree
 returns_4 c =
-    let at-if2 = c.before.before.before.before.before.before.before.before in let a = at-if2.args in
+    let at-if2 = c.before.before.before.before.before.before.before.before.before in let a = at-if2.args in
     let σ = store_of a.slots.now a.heads.now in
     let free = c.level in
     let taken = c.acquire_empty in
