@@ -47,15 +47,15 @@ module _ (t : ℕ) where
         (
           given_bound _ a.x _ (given_same _ s.requires.1.0 first.1) refl,
           let_second _ _ (tree s) a.x a.places.now s.requires.1.1 _ s.requires.1.0.long
-              (omega (arith, s.fits.x)) first.1 first.0,
+              (omega (arith, s.ranges.x)) first.1 first.0,
         ),
       )
 
   pub lay_let_mul_places_2 : lts.Need-offset_bounds-places-i-3 (lay_let_claims t) (lay_let_at t) lay-let.Post
-  lay_let_mul_places_2 c = omega (arith, (start_of (aim_of c)).fits.x)
+  lay_let_mul_places_2 c = omega (arith, (start_of (aim_of c)).ranges.x)
 
   pub lay_let_element_write_places_2 : lts.Need-bounds-places-i-3 (lay_let_claims t) (lay_let_at t) lay-let.Post
-  lay_let_element_write_places_2 c = omega (arith, (start_of (aim_of c)).fits.x)
+  lay_let_element_write_places_2 c = omega (arith, (start_of (aim_of c)).ranges.x)
 
   pub lay_let_returns : lts.Need-returns (lay_let_claims t) (lay_let_at t) lay-let.Post
   lay_let_returns c =
@@ -64,7 +64,7 @@ module _ (t : ℕ) where
       let s = start_of aim in
       let a = s.args in (
         let_laid _ _ (tree s) a.x a.places.now s.requires.1.1 _ s.requires.1.0.long
-            (omega (arith, s.fits.x)) first.1 first.0
-            (rw aim.spot-at.ensures at c.lay_part-r.ensures.0),
+            (omega (arith, s.ranges.x)) first.1 first.0
+            (rw aim.spot_at-second.ensures at c.lay_part-r.ensures.0),
         put_back 0 _ _ _ _ _ first.1 c.lay_part-r.ensures.1,
       )

@@ -64,14 +64,14 @@ module _ (t : ℕ) where
   lay_node_atom_out_requires c κs = inside c.before.before.before.before
 
   pub lay_node_atom_out_requires_2 : lts.Need-atom_out-requires-in-3 (lay_node_claims t) (lay_node_at t) lay-node.Post
-  lay_node_atom_out_requires_2 c κs = inside c.before.before.before.before
+  lay_node_atom_out_requires_2 c κs = inside c.before.before.before.before.before
 
   pub lay_node_add_spot_at : lts.Need-overflow_add-spot-in-7 (lay_node_claims t) (lay_node_at t) lay-node.Post
   lay_node_add_spot_at c =
       let s = c.before.before.before.before.before.before.before.before.before in omega (arith, inside s)
 
   pub lay_node_sub_lay_let : lts.Need-overflow_sub-levels (lay_node_claims t) (lay_node_at t) lay-node.Post
-  lay_node_sub_lay_let c = omega (arith, (let_arm c).before.before.before.requires.1.0.deep)
+  lay_node_sub_lay_let c = omega (arith, (let_arm c).requires.1.0.deep)
 
   pub lay_node_lay_let_requires : lts.Need-lay_let-requires (lay_node_claims t) (lay_node_at t) lay-node.Post
   lay_node_lay_let_requires c κs =
@@ -90,7 +90,7 @@ module _ (t : ℕ) where
       let s = c.before.before.before.before.before.before.before.before.before in omega (arith, inside s)
 
   pub lay_node_sub_lay_if : lts.Need-overflow_sub-levels-in-12 (lay_node_claims t) (lay_node_at t) lay-node.Post
-  lay_node_sub_lay_if c = omega (arith, (if_arm c).before.before.before.requires.1.0.deep)
+  lay_node_sub_lay_if c = omega (arith, (if_arm c).requires.1.0.deep)
 
   pub lay_node_lay_if_requires : lts.Need-lay_if-requires (lay_node_claims t) (lay_node_at t) lay-node.Post
   lay_node_lay_if_requires c κs =
@@ -105,7 +105,7 @@ module _ (t : ℕ) where
       )
 
   pub lay_node_sub_lay_compound : lts.Need-overflow_sub-levels-in_default (lay_node_claims t) (lay_node_at t) lay-node.Post
-  lay_node_sub_lay_compound c = omega (arith, (other_arm c).before.before.before.requires.1.0.deep)
+  lay_node_sub_lay_compound c = omega (arith, (other_arm c).requires.1.0.deep)
 
   pub lay_node_lay_compound_requires :
       lts.Need-lay_compound-requires (lay_node_claims t) (lay_node_at t) lay-node.Post
@@ -149,7 +149,7 @@ module _ (t : ℕ) where
   lay_node_returns_3 c =
       let arm = let_arm c.before in
       let s = arm.before.before.before in let node = s.args.spot.node in (
-        ready_made _ _ s.args.levels node (is_let s arm.match.keys3) (omega (arith, s.requires.1.0.deep))
+        ready_made _ _ s.args.levels node (is_let s arm.in-7.is) (omega (arith, s.requires.1.0.deep))
             (let_after _ node _ _) (rw c.spot_at.ensures at c.lay_let.ensures.0),
         c.lay_let.ensures.1,
       )
@@ -158,7 +158,7 @@ module _ (t : ℕ) where
   lay_node_returns_4 c =
       let arm = if_arm c.before in
       let s = arm.before.before.before in let node = s.args.spot.node in (
-        ready_made _ _ s.args.levels node (is_if s arm.match.keys4) (omega (arith, s.requires.1.0.deep))
+        ready_made _ _ s.args.levels node (is_if s arm.in-12.is) (omega (arith, s.requires.1.0.deep))
             (if_after node _ _ _) (rw c.spot_at-in-12.ensures at c.lay_if.ensures.0),
         c.lay_if.ensures.1,
       )
@@ -167,7 +167,7 @@ module _ (t : ℕ) where
   lay_node_returns_5 c =
       let arm = other_arm c.before in
       let s = arm.before.before.before in (
-        ready_made _ _ s.args.levels s.args.spot.node (is_compound s arm.match.rest)
+        ready_made _ _ s.args.levels s.args.spot.node (is_compound s arm.in_default.in_default-own.rest)
             (omega (arith, s.requires.1.0.deep)) refl c.lay_compound.ensures.0,
         c.lay_compound.ensures.1,
       )
