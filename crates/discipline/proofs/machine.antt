@@ -12,6 +12,7 @@ pub mod Retaining
 pub mod Elements
 pub mod Atoms
 pub mod Size
+pub mod Limits
 pub mod Rules
 pub mod Fits
 pub mod Binding
@@ -33,6 +34,7 @@ pub mod Rewritten
 pub mod Mapping
 pub mod Filtering
 pub mod Reducing
+pub mod Copied
 pub mod Rewriting
 pub mod Trees
 pub mod Parameters

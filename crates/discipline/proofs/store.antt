@@ -1,5 +1,6 @@
 -- The store: its invariant, each operation, and a store between deliveries.
 pub mod Invariant
+pub mod Claims
 pub mod Counting
 pub mod Tabulate
 pub mod Cells

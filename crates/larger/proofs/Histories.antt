@@ -10,16 +10,7 @@ use Rattle.laws.specs.Lists.{hits}
 use Rattle.laws.specs.Files.{same_script}
 use Rattle.soundness.proofs.saved.Stories.{numbers_of, never_dry, Shown, shown_here, shown_there, same_shown}
 use Rattle.larger.proofs.Larger.{larger}
-
--- a delivery to be worked on both stores: its readings, and its budget on the first and on the second
-pub record Planned : Type 0 where
-  pub readings : List ℤ
-  pub budget : ℕ
-  pub more : ℕ
-
-abbrev pub PlanGrows : List Planned → Type 0
-PlanGrows [] = Unit {0}
-PlanGrows (x ∷ xs) = (x.budget ≤ x.more) × ((x.more ≤ 1000000) × PlanGrows xs)
+use Rattle.larger.proofs.Plans.{Planned, PlanGrows}
 
 -- ---- worked
 

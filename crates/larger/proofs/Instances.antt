@@ -7,13 +7,8 @@ use Rattle.semantics.specs.Trials.{printed_file}
 use Rattle.semantics.specs.Slips.{file_of, low_first, operand_bytes}
 use Rattle.soundness.proofs.Instances.{printed_script, rewritten_nodes, rewritten_script}
 use Rattle.soundness.proofs.saved.Stories.{Shown, shown}
-use Rattle.larger.proofs.Histories.{Planned, PlanGrows, worked_twice, history, shown_first, shown_second}
-use Rattle.larger.proofs.Histories.{same_history}
-
--- deliveries of these readings
-unfoldable pub plan : List (List ℤ) → List Planned
-plan [] = []
-plan (l ∷ ls) = record { readings = l; budget = 50; more = 1000 } ∷ plan ls
+use Rattle.larger.proofs.Plans.{PlanGrows, plan}
+use Rattle.larger.proofs.Histories.{worked_twice, history, shown_first, shown_second, same_history}
 
 plan_grows : (ls : List (List ℤ)) → PlanGrows (plan ls)
 unfolding plan

@@ -5,5 +5,6 @@ pub mod Work
 pub mod Stores
 pub mod Deliveries
 pub mod Larger
+pub mod Plans
 pub mod Histories
 pub mod Instances

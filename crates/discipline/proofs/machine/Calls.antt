@@ -19,7 +19,7 @@ use Rattle.discipline.proofs.machine.Agreement.{Start, Together, Agree, same, ag
 use Rattle.discipline.proofs.machine.Frames.{hold, Room, Setting, Situation, Returned, Arguments, named_all}
 use Rattle.discipline.proofs.machine.Frames.{owned_cells, borrowed_cells}
 use Rattle.discipline.proofs.machine.Standing.{none_in}
-use Rattle.discipline.proofs.machine.Size.{tree_adds}
+use Rattle.discipline.proofs.machine.Size.{tree_adds, AddsWithin}
 use Rattle.discipline.proofs.machine.Rules.{TreeRules}
 use Rattle.discipline.proofs.machine.Claims.{CallClaim, LeafClaim}
 use Rattle.discipline.proofs.machine.Reading.{leaf_operation, leaf_index, leaf_length}
@@ -59,7 +59,7 @@ setting p start n Γ = record {
 -- owns its parameters.
 pub record ProgramDisciplined (p : Program) : Type 0 where
   pub functions : (f : ℕ) → f < length p.routines → FunctionDisciplined p f
-  pub short : (f : ℕ) → f < length p.routines → tree_adds (routine_of p f).tree ≤ call_adds
+  pub short : (f : ℕ) → f < length p.routines → AddsWithin call_adds (routine_of p f).tree
   pub some : 0 < length p.routines
   pub owns : (i : ℕ) → p.borrowing 0 i ≡ false
   pub takes : (p.signatures 0).parameters ≡ p.depth ∷ (1 ∷ [])

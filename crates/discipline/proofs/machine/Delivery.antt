@@ -24,6 +24,7 @@ use Rattle.discipline.proofs.normal.Running.{running_is_meaning}
 use Rattle.semantics.specs.Plain.{running}
 use Rattle.discipline.proofs.store.LowestLevel.{free_list_length}
 use Rattle.discipline.proofs.machine.Images.{one_more}
+use Rattle.discipline.proofs.machine.Limits.{FitsCell, no_cell_free}
 use Rattle.discipline.proofs.machine.Agreement.{Start, Clean, Together, SameStop, AllTaken, Agree, both, same, dry}
 use Rattle.discipline.proofs.machine.Frames.{Room, Returned, Arguments, none, more, named_all, owned_cells}
 use Rattle.discipline.proofs.machine.Frames.{borrowed_cells}
@@ -43,7 +44,7 @@ pub data Delivers (start : Start) (d : ℕ) : Outcome State (Unit {0}) → Outco
   stops : {k n : ℕ} {s : State} {m : Meter} → SameStop start k s n m → Delivers start d (stop k s) (stop n m)
   runs_dry : {s : State} {p : Outcome Meter Value} → has_free s.store ≡ false →
       AllTaken start s → Clean start s → wants_cell (start.budget - s.left) p ≡ true →
-      Delivers start d (stop 25 s) p
+      Delivers start d (stop no_cell_free s) p
 
 wanted : (k : ℕ) (p : Outcome Meter Value) → step_wants k (meter_of p).trace ≡ true → wants_cell k p ≡ true
 wanted zero p h = refl
@@ -69,7 +70,7 @@ finish {start} d old (dry {s} {p} q) =
 -- a disciplined program, which may be frugal or not
 module _ (p : Program) (disciplined : ProgramDisciplined p) (careful : Bool)
     (frugal : careful ≡ true → ProgramFrugal p)
-    (readings : List ℤ) (short : length readings ≤ 16) (budget : ℕ) (σ : Store) (rests : Rests p.depth σ) where
+    (readings : List ℤ) (short : FitsCell readings) (budget : ℕ) (σ : Store) (rests : Rests p.depth σ) where
   abbrev d : ℕ
   d = p.depth
 

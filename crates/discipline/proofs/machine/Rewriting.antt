@@ -42,7 +42,8 @@ use Rattle.discipline.proofs.machine.Fits.{rewrite_fits, first_same}
 use Rattle.discipline.proofs.machine.Rules.{LineRules, TreeRules, Fresh, fresh, outer_names, loop_fresh}
 use Rattle.discipline.proofs.machine.Rules.{pass_rules}
 use Rattle.discipline.proofs.machine.Claims.{TreeClaim, LineClaim, begin_step}
-use Rattle.discipline.proofs.machine.Holding.{released_state, ended_released}
+use Rattle.discipline.proofs.machine.Holding.{ended_released}
+use Rattle.discipline.proofs.machine.Copied.{CopyEnds}
 use Rattle.discipline.proofs.machine.Passes.{passes_agree}
 use Rattle.discipline.proofs.machine.Sites.{one_part}
 use Rattle.discipline.proofs.machine.Bodies.{pass_begins}
@@ -297,7 +298,7 @@ module _ (C : Setting) (grows : CalleeGrows C.meant) {x p : ℕ} {a : Atom} {t :
         )))
 
     copies_ended : {Q : List ℕ} {w : ℤ} {s : State} {v : Value} {m : Meter} → Copies Q (length vs) w s v m →
-        Ended C (C.depths x) σ Z F H' ρ δ n w (released_state c s) v m
+        CopyEnds C (C.depths x) c σ Z F H' ρ δ n w s v m
     copies_ended q = ended_released C c
         (ended_depth C (ap suc numbers ∙ sym fits.2) (ended_less C n (omega arith) (filled_ended C d q.0 q.1)))
 

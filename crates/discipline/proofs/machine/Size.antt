@@ -24,6 +24,10 @@ unfoldable mutual
   line_adds (retain x) = 1
   line_adds (release x) = 0
 
+-- a tree that adds no more references than that
+abbrev pub AddsWithin : ℕ → Tree → Type 0
+AddsWithin most t = tree_adds t ≤ most
+
 mutual
   unfolding tree_adds rows
 

@@ -10,6 +10,7 @@ use Rattle.semantics.specs.Demands.{value_of}
 use Rattle.laws.specs.Lists.{occurrences_append}
 use Rattle.laws.specs.Cells.{named_by_none}
 use Rattle.discipline.proofs.store.Invariant.{Tidy, Invariant, Alike, Keeps}
+use Rattle.discipline.proofs.store.Claims.{Shallow}
 use Rattle.discipline.proofs.store.Counting.{hits_itself}
 use Rattle.discipline.proofs.store.Tabulate.{padded_length, padded_at, take_padded}
 use Rattle.discipline.proofs.store.Cells.{same_agree, Put, put_size, put_cases, put_inner, put_same, put_other}
@@ -130,7 +131,7 @@ module _ {σ : Store} {Z R : List ℕ} (d : ℕ) (ws : List ℤ) (v : Invariant 
 
   -- where the words hold their cells, beside the references S
   module _ (S : List ℕ) (held : (n : ℕ) → occurrences n R ≡ occurrences n (named_by d ws) + occurrences n S)
-      (short : length ws ≤ 16) (shallow : d ≤ 3)
+      (short : length ws ≤ 16) (shallow : Shallow d)
       (typed : (r : ℕ) → r ∈ named_by d ws → d ≡ suc (cell σ r).depth) where
     taken_inner : (n : ℕ) →
         occurrences n (all_inner τ.cells) ≡ occurrences n (all_inner σ.cells) + occurrences n (named_by d ws)
@@ -201,7 +202,7 @@ acquire_takes {σ} d ws v e = rw e (takes d ws v (ltb-true σ.first (cell_count 
 
 -- the words' references go into the cell
 pub acquire : {σ : Store} {Z R : List ℕ} (d : ℕ) (ws : List ℤ) → Invariant σ Z (named_by d ws ++ R) →
-    has_free σ ≡ true → length ws ≤ 16 → d ≤ 3 → ((r : ℕ) → r ∈ named_by d ws → d ≡ suc (cell σ r).depth) →
+    has_free σ ≡ true → length ws ≤ 16 → Shallow d → ((r : ℕ) → r ∈ named_by d ws → d ≡ suc (cell σ r).depth) →
     Acquires σ (acquired d ws σ) d ws Z R
 unfolding acquired has_free
 acquire {σ} {Z} {R} d ws v e short shallow typed =
@@ -209,7 +210,7 @@ acquire {σ} {Z} {R} d ws v e short shallow typed =
     shallow typed)
 
 -- without words
-pub acquire_empty : {σ : Store} {Z R : List ℕ} (d : ℕ) → Invariant σ Z R → has_free σ ≡ true → d ≤ 3 →
+pub acquire_empty : {σ : Store} {Z R : List ℕ} (d : ℕ) → Invariant σ Z R → has_free σ ≡ true → Shallow d →
     Acquires σ (acquired d [] σ) d [] Z R
 unfolding occurrences
 acquire_empty {σ} {Z} {R} d v e shallow =
@@ -226,7 +227,7 @@ pub record Reserves (σ τ : Store) (d : ℕ) (Z R : List ℕ) : Type 0 where
   pub alike : (r : ℕ) → 0 < (cell σ r).count → Alike σ τ r
   pub new : cell τ σ.first ≡ filled d []
 
-pub reserve : {σ : Store} {Z R : List ℕ} (d : ℕ) → Invariant σ Z R → has_free σ ≡ true → d ≤ 3 →
+pub reserve : {σ : Store} {Z R : List ℕ} (d : ℕ) → Invariant σ Z R → has_free σ ≡ true → Shallow d →
     Reserves σ (acquired d [] σ) d Z R
 reserve {σ} {Z} {R} d v e shallow = record {
   taken = a.taken;

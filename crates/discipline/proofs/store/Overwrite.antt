@@ -7,6 +7,7 @@ use Rattle.semantics.specs.Store.{with_cell}
 use Rattle.semantics.specs.Sound.{free_list, all_inner}
 use Rattle.laws.specs.Cells.{inner_flat}
 use Rattle.discipline.proofs.store.Invariant.{Tidy, Invariant, Alike}
+use Rattle.discipline.proofs.store.Claims.{OfNumbers}
 use Rattle.discipline.proofs.store.Cells.{in_range, Put, put_size, put_inner, put_counts}
 use Rattle.discipline.proofs.store.Cells.{put_same, with_cell_put}
 use Rattle.discipline.proofs.store.FreeList.{listed, listed_used}
@@ -48,7 +49,7 @@ pub record Overwrites (σ τ : Store) (c i : ℕ) (w : ℤ) (Z R : List ℕ) : T
   pub cells : cell_count τ ≡ cell_count σ
 
 module _ {σ : Store} {Z R : List ℕ} (c i : ℕ) (w : ℤ) (v : Invariant σ Z R) (aside : c ∈ Z)
-    (within : i < (cell σ c).size) (numbers : (cell σ c).depth ≡ 0) where
+    (within : i < (cell σ c).size) (numbers : OfNumbers σ c) where
   abbrev x : Cell
   x = with_slot (cell σ c) i w
 

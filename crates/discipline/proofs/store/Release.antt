@@ -9,6 +9,7 @@ use Rattle.semantics.specs.Machine.{Event, acquires, frees, touches, each_events
 use Rattle.semantics.specs.Demands.{touched, taken_off, put_on, replayed}
 use Rattle.laws.specs.Lists.{occurrences_append, occurs_first}
 use Rattle.discipline.proofs.store.Invariant.{Invariant, Keeps}
+use Rattle.discipline.proofs.store.Claims.{Replays}
 use Rattle.discipline.proofs.store.Counting.{hits_itself}
 use Rattle.discipline.proofs.store.Cells.{in_range, clear_names, CellsAgree, agree_trans, same_agree, Put, Here}
 use Rattle.discipline.proofs.store.Cells.{There}
@@ -46,7 +47,7 @@ pub record Releases (σ τ : Store) (log : List Event) (Z R : List ℕ) : Type 0
   pub holds : Invariant τ Z R
   pub same : (c : ℕ) → 0 < (cell τ c).count → CellsAgree (cell τ c) (cell σ c)
   pub untouched : touched log ≡ []
-  pub replays : some (free_list τ) ≡ replayed log (some (free_list σ))
+  pub replays : Replays σ τ log
   pub totals : τ.totals ≡ σ.totals
   pub cells : cell_count τ ≡ cell_count σ
   pub fewer : (c : ℕ) → (cell τ c).count ≤ (cell σ c).count
