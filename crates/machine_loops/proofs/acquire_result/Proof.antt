@@ -7,7 +7,7 @@ use Rattle.machine_loops.proofs.acquire_result.Statement.{statement}
 use Rattle.machine_loops.proofs.acquire_result.Tie as tie
 
 -- the cell that was acquired
-inside : (c : tie.In-Cell-2) →
+inside : (c : tie.In-Cell) →
     let a = c.args in
     Within a.slots.now a.heads.now c.in-Cell.c
 inside c =

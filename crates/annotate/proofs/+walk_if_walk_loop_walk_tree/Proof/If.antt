@@ -20,8 +20,8 @@ module _ (t : ℕ) where
   abbrev start : Here lts.After-walk_tree-second → Here lts.Start
   start c = c.before.before.before.before.before.before.before.before
 
-  abbrev second : Here lts.After-put-used-arg3 → Here lts.After-walk_tree-second
-  second c = c.before.before.before.before.before.before.before
+  abbrev second : Here lts.After-put_used-arg-2-1 → Here lts.After-walk_tree-second
+  second c = c.before.before.before.before.before.before
 
   abbrev second_opened : Here lts.After-walk_tree-arg-8-1 → Here lts.After-put_used-second_opened
   second_opened c = c.before.before.before.before.before.before.before.before
@@ -64,7 +64,7 @@ module _ (t : ℕ) where
   put_used_requires c κs =
       let at_second = second c.before in
       let begun = start at_second in
-      (omega (arith, begun.fits.x), lower at_second.walk-tree.ensures.wrote begun.requires.1.3)
+      (omega (arith, begun.ranges.x), lower at_second.walk_tree-second.ensures.wrote begun.requires.1.3)
 
   pub then_end_at_requires : Here lts.Need-then_end_at-t-requires
   then_end_at_requires c κs = omega (arith, (start (second c.before.before.before.before.before)).requires.1.0)
@@ -76,29 +76,29 @@ module _ (t : ℕ) where
         omega (arith, (start at_second).requires.0),
         (
           c.then_end_at-t.ensures.1,
-          at_second.walk-tree.ensures.long,
-          lower opened.put_used.ensures (put_used_requires opened.before opened.put_used.lifetimes).1,
+          at_second.walk_tree-second.ensures.long,
+          lower opened.put_used-second_opened.ensures (put_used_requires opened.before opened.put_used-second_opened.lifetimes).1,
         ),
       )
 
   pub put_releases_requires : Here lts.Need-put_releases-first_opened-requires
   put_releases_requires c κs =
       let at_first = first c in (
-        omega (arith, (start (second_of_first at_first)).fits.x),
-        lower at_first.walk-tree2.ensures.wrote
-            (walk_tree_requires_2 at_first.before at_first.walk-tree2.lifetimes).1.2,
+        omega (arith, (start (second_of_first at_first)).ranges.x),
+        lower at_first.walk_tree-first.ensures.wrote
+            (walk_tree_requires_2 at_first.before at_first.walk_tree-first.lifetimes).1.2,
       )
 
   pub put_atom_requires : Here lts.Need-put_atom-guarded-requires
   put_atom_requires c κs =
       let opened = first_opened c in
-      lower opened.put-releases.ensures
-      (put_releases_requires opened.before opened.put-releases.lifetimes).1
+      lower opened.put_releases-first_opened.ensures
+      (put_releases_requires opened.before opened.put_releases-first_opened.lifetimes).1
 
   pub put_row_requires : Here lts.Need-put_row-headed-requires
   put_row_requires c κs =
       let at-guard = guarded c in
-      lower at-guard.put-atom.ensures (put_atom_requires at-guard.before at-guard.put-atom.lifetimes)
+      lower at-guard.put_atom-guarded.ensures (put_atom_requires at-guard.before at-guard.put_atom-guarded.lifetimes)
 
   pub add_take_use : Here lts.Need-overflow_add-p-2
   add_take_use c = omega (arith, (start (second_of_first (first_of_head (headed c)))).requires.1.0)
@@ -106,7 +106,7 @@ module _ (t : ℕ) where
   pub take_use_requires : Here lts.Need-take_use-u-requires
   take_use_requires c κs =
       let at_first = first_of_head (headed c.before) in
-      (omega (arith, (start (second_of_first at_first)).requires.1.0), (at_first.walk-tree2.ensures.long, search rules))
+      (omega (arith, (start (second_of_first at_first)).requires.1.0), (at_first.walk_tree-first.ensures.long, search rules))
 
   -- ---- what it answers
 
@@ -127,10 +127,10 @@ module _ (t : ℕ) where
       let depths = depth_in a.depths.now in
       if_done code borrowing depths (tree_walk code borrowing depths a.here.levels) a.here.p
       a.here.q a.x
-      (meant a.g) a.after at_second.walk-tree.result at_first.walk-tree2.result joined.result _
-      less.result found.result less.ensures found.ensures.0 at_second.walk-tree.ensures
-      opened-second.put_used.ensures at_first.walk-tree2.ensures opened.put-releases.ensures
-      guard.put-atom.ensures head.put-row.ensures joined.ensures c.take_use-u.ensures
+      (meant a.g) a.after at_second.walk_tree-second.result at_first.walk_tree-first.result joined.result _
+      less.result found.result less.ensures found.ensures.0 at_second.walk_tree-second.ensures
+      opened-second.put_used-second_opened.ensures at_first.walk_tree-first.ensures opened.put_releases-first_opened.ensures
+      guard.put_atom-guarded.ensures head.put_row-headed.ensures joined.ensures c.take_use-u.ensures
 
   pub same_length : Here lts.Need-shape_of-ks
   same_length c = (returns c).wrote.long_kinds

@@ -38,7 +38,7 @@ module _ (t : ℕ) where
   retained c = c.before.before.before.before
 
   abbrev walk_begun : Here lts.After-walk_tree-arg-in-Loop-3-1 → Here lts.Start
-  walk_begun c = start (passed c).before.before.before
+  walk_begun c = start (passed c).before.before
 
   abbrev tree : Here lts.After-take_use-arg-1 → Here lts.After-walk_tree-t
   tree c = walked (opened c).before
@@ -86,7 +86,7 @@ module _ (t : ℕ) where
       let at_tree = tree c.before in (
         omega (arith, (walk_begun at_tree.before).requires.1.1),
         (
-          at_tree.walk-tree.ensures.long,
+          at_tree.walk_tree-t.ensures.long,
           names_long (passed at_tree.before),
         ),
       )
@@ -94,7 +94,7 @@ module _ (t : ℕ) where
   pub retain_handed_requires : Here lts.Need-retain_handed-retained-requires
   retain_handed_requires c κs =
       let head = opened (used c).before.before in
-      lower head.open_loop.ensures (open_loop_requires head.before head.open_loop.lifetimes)
+      lower head.open_loop-v.ensures (open_loop_requires head.before head.open_loop-v.lifetimes)
 
   pub add_take_use_2 : Here lts.Need-overflow_add-p-in-Loop
   add_take_use_2 c = omega (arith, (walk_begun (tree (first_use c).before.before).before).requires.1.1)
@@ -105,7 +105,7 @@ module _ (t : ℕ) where
       let at_tree = tree taken.before.before in (
         omega (arith, (walk_begun at_tree.before).requires.1.1),
         (
-          taken.take-use.ensures.long,
+          taken.take_use-u.ensures.long,
           simp length-set (names_long (passed at_tree.before)),
         ),
       )
@@ -121,16 +121,16 @@ module _ (t : ℕ) where
       let at_tree = walked head.before in
       let less = at_tree.less_two-e in
       let names = passed at_tree.before in
-      let a = (start names.before.before.before).args in
+      let a = (start names.before.before).args in
       let code = plain a.operands.now a.rows.now a.notes.now in
       let borrowing = borrows a.table.now in
       let depths = depth_in a.depths.now in
       loop_done code borrowing depths (tree_walk code borrowing depths a.here.levels) a.here.p a.here.q
-      names.l-1.given.0.0 names.l-1.given.0.1.0 names.l-1.given.0.1.1.0 names.l-1.given.0.1.1.1.0 names.l-1.given.0.1.1.1.1.0 names.l-1.given.0.1.1.1.1.1.0
-      at_second.result a.after names.pass_names.result at_tree.walk-tree.result _ _
-      names.loop_size.result less.result names.loop_size.ensures less.ensures names.pass_names.ensures
-      at_tree.walk-tree.ensures names.l-1.given.1 head.open_loop.ensures at_second.ensures taken.take-use.ensures
-      kept.retain-handed.ensures c.take_use-handed.ensures
+      names.in-Loop.x names.in-Loop.kind names.in-Loop.field-2 names.in-Loop.field-3 names.in-Loop.a names.in-Loop.b
+      at_second.result a.after names.pass_names-inner.result at_tree.walk_tree-t.result _ _
+      names.loop_size.result less.result names.loop_size.ensures less.ensures names.pass_names-inner.ensures
+      at_tree.walk_tree-t.ensures names.in-Loop.is head.open_loop-v.ensures at_second.ensures taken.take_use-u.ensures
+      kept.retain_handed-retained.ensures c.take_use-handed.ensures
 
   pub returns_2 : Here lts.Need-returns-in_default
   returns_2 c = absurd (not_loop c.args.l c.in_default.in_default-own.keys2 c.requires.1.0)

@@ -68,13 +68,13 @@ module _ (t : ℕ) where
   -- ---- its end line
 
   pub put_end_requires : Here lts.Need-put_end-v-requires
-  put_end_requires c κs = (read c).before.before.before.before.requires.1.2
+  put_end_requires c κs = (read c).requires.1.2
 
   pub take_use_requires : Here lts.Need-take_use-u-requires
   take_use_requires c κs = (
     omega arith,
     (
-      (read c.before.before.before.before.before.before).before.before.before.before.requires.1.1,
+      (read c.before.before.before.before.before.before).requires.1.1,
       search rules,
     ),
   )
@@ -86,8 +86,8 @@ module _ (t : ℕ) where
       let atom = read end.before in
       let row = atom.row_at-place in
       none_done (code b) (borrowing b) (depths b) b.args.levels b.args.e c.if-levels-eq0.true
-      (end_done (code b) (borrowing b) (depths b) b.args.e atom.atom-of.result row.result row.ensures
-      atom.atom-of.ensures end.put-end.ensures c.take_use-u.ensures)
+      (end_done (code b) (borrowing b) (depths b) b.args.e atom.atom_of-a.result row.result row.ensures
+      atom.atom_of-a.ensures end.put_end-v.ensures c.take_use-u.ensures)
 
   pub loop_holds : Here lts.Need-loop-left-init
   loop_holds c =
@@ -106,8 +106,8 @@ module _ (t : ℕ) where
       let row = atom.row_at-place in
       let going = c.loop-left.invariant.1 in
       tree_done (code b) (borrowing b) (depths b) b.args.levels b.args.e c.if-levels-eq0.false
-      (end_done (code b) (borrowing b) (depths b) b.args.e atom.atom-of.result row.result row.ensures
-      atom.atom-of.ensures end.put-end.ensures known.take_use-u.ensures) going
+      (end_done (code b) (borrowing b) (depths b) b.args.e atom.atom_of-a.result row.result row.ensures
+      atom.atom_of-a.ensures end.put_end-v.ensures known.take_use-u.ensures) going
       (going_stops (code b) (borrowing b) (depths b) (inner b) going c.note_at-p.result
       c.note_at-p.ensures c.if-q-p.true)
 
@@ -119,8 +119,8 @@ module _ (t : ℕ) where
       let row = atom.row_at-place in
       let going = c.loop-left.invariant.1 in
       tree_done (code b) (borrowing b) (depths b) b.args.levels b.args.e c.if-levels-eq0.false
-      (end_done (code b) (borrowing b) (depths b) b.args.e atom.atom-of.result row.result row.ensures
-      atom.atom-of.ensures end.put-end.ensures known.take_use-u.ensures) going
+      (end_done (code b) (borrowing b) (depths b) b.args.e atom.atom_of-a.result row.result row.ensures
+      atom.atom_of-a.ensures end.put_end-v.ensures known.take_use-u.ensures) going
       (going_ends (code b) (borrowing b) (depths b) (inner b) going c.loop-left-test.false)
 
   pub line_at_requires : Here lts.Need-line_at-l-requires
@@ -144,7 +144,7 @@ module _ (t : ℕ) where
   walk_if_requires c κs =
       let line = if_line_of (released c).before in
       let going = (looped line).loop-left.invariant.1 in (
-        omega (arith, (begun line).requires.0, (looped line).before.if1.left),
+        omega (arith, (begun line).requires.0, (looped line).if-levels-eq0.false),
         (
           omega (arith, row_near line),
           omega (arith, going.near),
@@ -161,12 +161,12 @@ module _ (t : ℕ) where
         let note = line.note_at-p in
         let loop = (looped line).loop-left in
         let b = begun line in
-        going_more (code b) (borrowing b) (depths b) (inner b) loop.inv.1 note.result _
+        going_more (code b) (borrowing b) (depths b) (inner b) loop.invariant.1 note.result _
         line.loop-left-test.true note.ensures line.if-q-p.false (sym told.l-1.given.1
-        ∙ line.line_at.ensures)
+        ∙ line.line_at-l.ensures)
         (if_line (code b) (borrowing b) (depths b) (inner b) note.result loop.q _ _
-        (omega (arith, name_small told, loop.inv.0))
-        release.put-release.ensures c.walk_if-t.ensures),
+        (omega (arith, name_small told, loop.invariant.0))
+        release.put_release-v.ensures c.walk_if-t.ensures),
   )
 
   -- ---- a loop
@@ -196,24 +196,24 @@ module _ (t : ℕ) where
       let close = closed c in
       let as_written = written close.before in
       let line = loop_line_of as_written.before in
-      let l = line.line_at.result in
+      let l = line.line_at-l.result in
       let going = (looped line).loop-left.invariant.1 in (
-        omega (arith, (begun line).requires.0, (looped line).before.if1.left),
+        omega (arith, (begun line).requires.0, (looped line).if-levels-eq0.false),
         (
-          ap is_loop as_written.written_line.ensures
+          ap is_loop as_written.written_line-m.ensures
               ∙ written_loop _ _ _ _ l (loop_is l as_written.in-Loop.in-Loop-own.keys2),
           omega (arith, row_near line),
           omega (arith, going.near),
           going.long,
-          lower close.close-loop.ensures going.room,
+          lower close.close_loop-v.ensures going.room,
         ),
       )
 
   pub sub_left_2 : Here lts.Need-overflow_sub-left-in-Loop
-  sub_left_2 c = omega (arith, (closed_line c.before.before.before).before.before.before.loop-test.taken)
+  sub_left_2 c = omega (arith, (closed_line c.before.before.before).loop-left-test.true)
 
   pub loop_less_2 : Here lts.Need-loop-left-smaller-in-Loop
-  loop_less_2 c = omega (arith, (closed_line c.before.before.before).before.before.before.loop-test.taken)
+  loop_less_2 c = omega (arith, (closed_line c.before.before.before).loop-left-test.true)
 
   pub loop_again_2 : Here lts.Need-loop-left-preserved-in-Loop
   loop_again_2 c = (
@@ -221,15 +221,15 @@ module _ (t : ℕ) where
     let close = closed c.before.before.before.before in
         let as_written = written close.before in
         let line = loop_line_of as_written.before in
-        let l = line.line_at in
+        let l = line.line_at-l in
         let note = line.note_at-p in
         let loop = (looped line).loop-left in
         let b = begun line in
-        going_more (code b) (borrowing b) (depths b) (inner b) loop.inv.1 note.result l.result
+        going_more (code b) (borrowing b) (depths b) (inner b) loop.invariant.1 note.result l.result
         line.loop-left-test.true note.ensures line.if-q-p.false l.ensures
         (loop_line (code b) (borrowing b) (depths b) (inner b) note.result loop.q l.result
-        as_written.written_line.result (loop_is l.result as_written.in-Loop.in-Loop-own.keys2)
-        as_written.written_line.ensures close.close-loop.ensures c.walk_loop-t.ensures),
+        as_written.written_line-m.result (loop_is l.result as_written.in-Loop.in-Loop-own.keys2)
+        as_written.written_line-m.ensures close.close_loop-v.ensures c.walk_loop-t.ensures),
   )
 
   -- ---- a binary line
@@ -255,12 +255,12 @@ module _ (t : ℕ) where
       let note = line.note_at-p in
       let loop = (looped line).loop-left in
       let b = begun line in (
-        simp length-set loop.inv.0,
-        going_more (code b) (borrowing b) (depths b) (inner b) loop.inv.1 note.result _
+        simp length-set loop.invariant.0,
+        going_more (code b) (borrowing b) (depths b) (inner b) loop.invariant.1 note.result _
             line.loop-left-test.true note.ensures line.if-q-p.false
-            (sym binary.l-in-Binary-1.given.1 ∙ line.line_at.ensures)
+            (sym binary.in-Binary.is ∙ line.line_at-l.ensures)
             (binary_line (code b) (borrowing b) (depths b) (inner b) note.result loop.q _ _ _ _
-            (binary.put-binary.ensures (borrowing b)) (c.take_pair-r.ensures loop.s loop.inv.0)),
+            (binary.put_binary-v.ensures (borrowing b)) (c.take_pair-r.ensures loop.s loop.invariant.0)),
       )
 
   -- ---- another line without trees
@@ -272,7 +272,7 @@ module _ (t : ℕ) where
   walk_leaf_requires c κs =
       let line = leaf_line_of c in
       let going = (looped line).loop-left.invariant.1 in (
-        leaf_is line.line_at.result c.in_default.in_default-own.keys4,
+        leaf_is line.line_at-l.result c.in_default.in_default-own.keys4,
         omega (
           arith,
           going.near,
@@ -285,11 +285,11 @@ module _ (t : ℕ) where
   loop_again_4 c = (
     search rules,
     let line = leaf_line_of c.before.before.before.before in
-        let l = line.line_at in
+        let l = line.line_at-l in
         let note = line.note_at-p in
         let loop = (looped line).loop-left in
         let b = begun line in
-        going_more (code b) (borrowing b) (depths b) (inner b) loop.inv.1 note.result l.result
+        going_more (code b) (borrowing b) (depths b) (inner b) loop.invariant.1 note.result l.result
         line.loop-left-test.true note.ensures line.if-q-p.false l.ensures
         (leaf_line (code b) (borrowing b) (depths b) (inner b) note.result loop.q l.result
         (leaf_is l.result c.in_default.in_default-own.keys4)

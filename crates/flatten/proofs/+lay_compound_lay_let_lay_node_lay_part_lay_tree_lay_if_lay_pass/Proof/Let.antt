@@ -55,11 +55,11 @@ module _ (t : ℕ) where
   lay_let_mul_places_2 c = omega (arith, (start_of (aim_of c)).ranges.x)
 
   pub lay_let_element_write_places_2 : lts.Need-bounds-places-i-3 (lay_let_claims t) (lay_let_at t) lay-let.Post
-  lay_let_element_write_places_2 c = omega (arith, (start_of (aim_of c)).ranges.x)
+  lay_let_element_write_places_2 c = omega (arith, (start_of (aim_of c.before)).ranges.x)
 
   pub lay_let_returns : lts.Need-returns (lay_let_claims t) (lay_let_at t) lay-let.Post
   lay_let_returns c =
-      let aim = aim_of c in
+      let aim = aim_of c.before in
       let first = aim.lay_part-first.ensures in
       let s = start_of aim in
       let a = s.args in (
