@@ -1,6 +1,7 @@
 -- A name occurs in the tree that begins at a row just where its last use, after the tree, lies past that row.
-use Rattle.prelude.specs.Kit.{ℕ, ◌≤◌, ◌+◌, ◌<◌, arith, true, false, Bool, cond, ◌||◌, or-true, ◌≡◌, refl, ◌∙◌, sym}
-use Rattle.prelude.specs.Kit.{fun_ext, List, [], ◌∷◌, eqb, ltb, length, lt-ltb, le-ltb}
+use Rattle.std.specs.Prelude.{ℕ, ◌≤◌, ◌+◌, ◌<◌, true, false, Bool, cond, ◌||◌, ◌≡◌, refl, List, [], ◌∷◌, eqb, ltb}
+use Rattle.std.specs.Prelude.{length}
+use Rattle.prelude.specs.Kit.{arith, or-true, ◌∙◌, sym, fun_ext, lt-ltb, le-ltb}
 use Rattle.semantics.specs.Basics.{updated}
 use Rattle.semantics.specs.Code.{Atom, number, name, Line, leaf, if_else, loop, retain, release, Tree, end, line}
 use Rattle.semantics.specs.Live.{empty, is, among}

@@ -1,6 +1,6 @@
 -- The members of a set joined with one name that is past all of them.
-use Rattle.prelude.specs.Kit.{ℕ, ◌≤◌, ◌<◌, suc, zero, arith, dec_lt, true, false, Bool, ◌&&◌, ◌||◌, or-false, ◌≡◌, refl}
-use Rattle.prelude.specs.Kit.{List, [], ◌++◌, eqb, ne_eqb}
+use Rattle.std.specs.Prelude.{ℕ, ◌≤◌, ◌<◌, suc, zero, true, false, Bool, ◌&&◌, ◌||◌, ◌≡◌, refl, List, [], ◌++◌, eqb}
+use Rattle.prelude.specs.Kit.{arith, dec_lt, or-false, ne_eqb}
 use Rattle.semantics.specs.Basics.{with_if}
 use Rattle.semantics.specs.Live.{Set, members_from}
 

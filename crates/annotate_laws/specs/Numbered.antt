@@ -1,6 +1,7 @@
 -- The normal form of an expression is nested, where the written names mean names below its first new one.
-use Rattle.prelude.specs.Kit.{ℕ, ◌≤◌, ◌+◌, ◌<◌, suc, arith, true, false, Bool, cond, ◌&&◌, not, ◌≡◌, refl, ◌∙◌, List}
-use Rattle.prelude.specs.Kit.{[], ◌∷◌, eqb, length, ne_eqb}
+use Rattle.std.specs.Prelude.{ℕ, ◌≤◌, ◌+◌, ◌<◌, suc, true, false, Bool, cond, ◌&&◌, not, ◌≡◌, refl, List, [], ◌∷◌}
+use Rattle.std.specs.Prelude.{eqb, length}
+use Rattle.prelude.specs.Kit.{arith, ◌∙◌, ne_eqb}
 use Rattle.semantics.specs.Basics.{updated}
 use Rattle.semantics.specs.Syntax as S
 use Rattle.semantics.specs.Syntax.{Expr, Exprs, Parameter, Function}

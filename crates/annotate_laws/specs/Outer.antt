@@ -1,7 +1,8 @@
 -- Trees whose inner names are numbered past the names that they use from outside: what an if and a loop release.
-use Rattle.prelude.specs.Kit.{ℕ, ◌≤◌, ◌<◌, arith, dec_lt, true, false, Bool, ◌&&◌, not, ◌||◌, and-false, true≢false}
-use Rattle.prelude.specs.Kit.{or_assoc, or-true, ◌≡◌, refl, ◌∙◌, sym, ap, fun_ext, List, [], ◌∷◌, ◌++◌, eqb, ltb}
-use Rattle.prelude.specs.Kit.{ne_eqb, lt-ltb, eq-eqb, le-ltb}
+use Rattle.std.specs.Prelude.{ℕ, ◌≤◌, ◌<◌, true, false, Bool, ◌&&◌, not, ◌||◌, ◌≡◌, refl, List, [], ◌∷◌, ◌++◌, eqb}
+use Rattle.std.specs.Prelude.{ltb}
+use Rattle.prelude.specs.Kit.{arith, dec_lt, and-false, true≢false, or_assoc, or-true, ◌∙◌, sym, ap, fun_ext, ne_eqb}
+use Rattle.prelude.specs.Kit.{lt-ltb, eq-eqb, le-ltb}
 use Rattle.semantics.specs.Kinds.{Loop, mapping, filtering, reducing, rewriting, loop_hands, loop_reads}
 use Rattle.semantics.specs.Basics.{with_if}
 use Rattle.semantics.specs.Code.{Atom, number, name, Line, leaf, if_else, loop, retain, release, Tree, end, line}

@@ -1,6 +1,6 @@
 -- What the walk comes to: of a tree by its lines, of a leaf's line and of an end.
-use Rattle.prelude.specs.Kit.{ℕ, ◌≤◌, ◌+◌, ◌<◌, ◌-◌, suc, zero, arith, ℕ_discrete, ◌≡◌, refl, ◌∙◌, ap, subst, fun_ext}
-use Rattle.prelude.specs.Kit.{List, [], ◌∷◌, ◌++◌, lt-ltb, le-ltb}
+use Rattle.std.specs.Prelude.{ℕ, ◌≤◌, ◌+◌, ◌<◌, ◌-◌, suc, zero, ◌≡◌, refl, List, [], ◌∷◌, ◌++◌}
+use Rattle.prelude.specs.Kit.{arith, ℕ_discrete, ◌∙◌, ap, subst, fun_ext, lt-ltb, le-ltb}
 use Rattle.semantics.specs.Basics.{updated}
 use Rattle.semantics.specs.Kinds.{Leaf, Borrowing}
 use Rattle.semantics.specs.Code as C

@@ -1,5 +1,6 @@
 -- The rows of annotated lines, in the order in which the walk puts them before the rows that follow.
-use Rattle.prelude.specs.Kit.{ℕ, ◌+◌, ◌&&◌, ◌≡◌, refl, ◌∙◌, sym, ap, List, [], ◌∷◌, ◌++◌, append_assoc, map-append}
+use Rattle.std.specs.Prelude.{ℕ, ◌+◌, ◌&&◌, ◌≡◌, refl, List, [], ◌∷◌, ◌++◌}
+use Rattle.prelude.specs.Kit.{◌∙◌, sym, ap, append_assoc, map-append}
 use Rattle.semantics.specs.Basics.{with_if}
 use Rattle.semantics.specs.Kinds.{Leaf, leaf_hands, leaf_reads, is_pending, Loop, Borrowing}
 use Rattle.semantics.specs.Code.{Atom, number, name, Line, leaf, if_else, loop, Tree, end, line}

@@ -1,5 +1,6 @@
 -- Two functions whose trees stand in plain code, an if with a map in it and a reduce: the walk's law is not empty.
-use Rattle.prelude.specs.Kit.{arith, ◌≡◌, refl, [], ◌∷◌, ◌++◌}
+use Rattle.std.specs.Prelude.{◌≡◌, refl, [], ◌∷◌, ◌++◌}
+use Rattle.prelude.specs.Kit.{arith}
 use Rattle.semantics.specs.Basics.{updated}
 use Rattle.semantics.specs.Syntax.{Function, name, if_else, loop, none, more}
 use Rattle.semantics.specs.Kinds.{mapping, reducing, Borrowing}

@@ -1,6 +1,6 @@
 -- Live before a tree is what occurs in it, joined with what is live after it, on names that the tree does not bind.
-use Rattle.prelude.specs.Kit.{ℕ, true, false, Bool, ◌||◌, true≢false, or-false, or_assoc, ◌≡◌, refl, ◌∙◌, sym, ap, List}
-use Rattle.prelude.specs.Kit.{[], ◌∷◌, eqb}
+use Rattle.std.specs.Prelude.{ℕ, true, false, Bool, ◌||◌, ◌≡◌, refl, List, [], ◌∷◌, eqb}
+use Rattle.prelude.specs.Kit.{true≢false, or-false, or_assoc, ◌∙◌, sym, ap}
 use Rattle.semantics.specs.Code.{Atom, Line, leaf, if_else, loop, retain, release, Tree, end, line}
 use Rattle.semantics.specs.Live.{Set, empty, ◌∪◌, ◌∖◌, ◌∖∖◌, only, just, is, among, live, live_before, uses}
 

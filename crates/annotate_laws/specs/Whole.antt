@@ -1,6 +1,7 @@
 -- Where a tree stands in plain code, the walk comes to what is live before it, to the last uses before it, and to the
 -- rows of the annotated tree.
-use Rattle.prelude.specs.Kit.{ℕ, ◌≤◌, ◌+◌, ◌-◌, suc, arith, ◌≡◌, refl, ◌∙◌, ap, List, [], ◌∷◌, ◌++◌, length, lt-ltb}
+use Rattle.std.specs.Prelude.{ℕ, ◌≤◌, ◌+◌, ◌-◌, suc, ◌≡◌, refl, List, [], ◌∷◌, ◌++◌, length}
+use Rattle.prelude.specs.Kit.{arith, ◌∙◌, ap, lt-ltb}
 use Rattle.semantics.specs.Kinds.{Loop, mapping, filtering, reducing, rewriting}
 use Rattle.semantics.specs.Kinds.{loop_hands, loop_reads, element_name, Borrowing}
 use Rattle.semantics.specs.Code as C

@@ -1,5 +1,6 @@
 -- The lines of an expression end as what comes after them ends.
-use Rattle.prelude.specs.Kit.{ℕ, ◌+◌, ◌≡◌, refl, ◌∙◌}
+use Rattle.std.specs.Prelude.{ℕ, ◌+◌, ◌≡◌, refl}
+use Rattle.prelude.specs.Kit.{◌∙◌}
 use Rattle.semantics.specs.Basics.{updated}
 use Rattle.semantics.specs.Syntax as S
 use Rattle.semantics.specs.Syntax.{Expr, Exprs}

@@ -1,6 +1,7 @@
 -- What holds of all that a file may read as, and that a file is accepted as one script.
-use Rattle.prelude.specs.Kit.{ℕ, ◌≤◌, ◌+◌, ◌*◌, true, false, Bool, cond, ◌&&◌, ◌≡◌, refl, List, eqb, ltb, leb, length}
-use Rattle.prelude.specs.Kit.{take, drop, leb-true}
+use Rattle.std.specs.Prelude.{ℕ, ◌≤◌, ◌+◌, ◌*◌, true, false, Bool, cond, ◌&&◌, ◌≡◌, refl, List, eqb, ltb, leb, length}
+use Rattle.std.specs.Prelude.{take, drop}
+use Rattle.prelude.specs.Kit.{leb-true}
 use Rattle.semantics.specs.Outcome.{Outcome, stop}
 use Rattle.semantics.specs.Number.{bytes_at}
 use Rattle.semantics.specs.Syntax.{Script}

@@ -1,6 +1,7 @@
 -- How many cells are in use, how many the free list has, and laws of levels: how many cells are free over a log.
-use Rattle.prelude.specs.Kit.{ℕ, ◌≤◌, ◌+◌, ◌<◌, ◌-◌, suc, zero, min, arith, true, false, Bool, ◌≡◌, refl, List, [], ◌∷◌}
-use Rattle.prelude.specs.Kit.{◌++◌, ltb, length, get_or, set}
+use Rattle.std.specs.Prelude.{ℕ, ◌≤◌, ◌+◌, ◌<◌, ◌-◌, suc, zero, min, true, false, Bool, ◌≡◌, refl, List, [], ◌∷◌}
+use Rattle.std.specs.Prelude.{◌++◌, ltb, length, get_or, set}
+use Rattle.prelude.specs.Kit.{arith}
 use Rattle.semantics.specs.Basics.{with_if, occurrences, each}
 use Rattle.semantics.specs.Sound.{free_from, free_list}
 use Rattle.semantics.specs.Store.{Cell, Store, cell, cell_count, inner, clear, with_cell, with_count, with_first, freed}

@@ -1,6 +1,6 @@
 -- Words as numbers: one that is not negative, and one whose bits are 0.
-use Rattle.prelude.specs.Kit.{◌<◌, suc, zero, ◌^◌, arith, true, false, true≢false, ◌≡◌, refl, T, ℤ, pos, negsuc, nat_abs}
-use Rattle.prelude.specs.Kit.{lt_z, mag, non_neg, w64, of_z, Fits}
+use Rattle.std.specs.Prelude.{◌<◌, suc, zero, ◌^◌, true, false, ◌≡◌, refl, T, ℤ, pos, negsuc, nat_abs}
+use Rattle.prelude.specs.Kit.{arith, true≢false, lt_z, mag, non_neg, w64, of_z, Fits}
 use Rattle.semantics.specs.Number.{is_zero}
 
 pub not_negative : (z : ℤ) → mag z < 2 ^ 63 → lt_z z (pos 0) ≡ false → T (non_neg z) × Fits w64 (nat_abs z)

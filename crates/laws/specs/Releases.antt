@@ -1,5 +1,6 @@
 -- A release by the count of its cell, and a count that was written.
-use Rattle.prelude.specs.Kit.{ℕ, suc, zero, ◌≡◌, refl, ap}
+use Rattle.std.specs.Prelude.{ℕ, suc, zero, ◌≡◌, refl}
+use Rattle.prelude.specs.Kit.{ap}
 use Rattle.semantics.specs.Basics.{each}
 use Rattle.semantics.specs.Store.{Cell, Store, cell, inner, with_cell, with_count, freed, lowered, released}
 

@@ -1,5 +1,6 @@
 -- The routines of a script's program, by the numbers of its functions.
-use Rattle.prelude.specs.Kit.{ℕ, ◌+◌, ◌<◌, suc, zero, arith, ◌≡◌, refl, ◌∙◌, ap, List, [], ◌∷◌, length, get_or}
+use Rattle.std.specs.Prelude.{ℕ, ◌+◌, ◌<◌, suc, zero, ◌≡◌, refl, List, [], ◌∷◌, length, get_or}
+use Rattle.prelude.specs.Kit.{arith, ◌∙◌, ap}
 use Rattle.semantics.specs.Syntax.{Function, Script, function_at, no_function}
 use Rattle.semantics.specs.Borrow.{Table, borrowed}
 use Rattle.semantics.specs.Annotate.{Style, full_style, depths_of, annotated_in}

@@ -1,5 +1,6 @@
 -- The lengths of the parts of a saved file.
-use Rattle.prelude.specs.Kit.{ℕ, suc, zero, ◌*◌, ◌/◌, arith, ◌≡◌, refl, ◌∙◌, ap, List, [], ◌∷◌, length, length-append}
+use Rattle.std.specs.Prelude.{ℕ, suc, zero, ◌*◌, ◌/◌, ◌≡◌, refl, List, [], ◌∷◌, length}
+use Rattle.prelude.specs.Kit.{arith, ◌∙◌, ap, length-append}
 use Rattle.semantics.specs.Saved.{Entry, unsigned, low_bytes, marks, number_bytes, file_bytes, saved_length}
 
 pub low_bytes_length : (k n : ℕ) → length (low_bytes k n) ≡ k

@@ -1,6 +1,6 @@
 -- What it says that a test holds, and that a test of depths gives one; and an equation that cannot be.
-use Rattle.prelude.specs.Kit.{ℕ, arith, true, false, Bool, ◌&&◌, not, false≢true, ◌||◌, ◌≡◌, refl, ◌∙◌, sym, inl, inr}
-use Rattle.prelude.specs.Kit.{◌⊎◌, some, none, List, [], ◌∷◌, eqb, eqb-true, not-true, not-false}
+use Rattle.std.specs.Prelude.{ℕ, true, false, Bool, ◌&&◌, not, ◌||◌, ◌≡◌, refl, ◌⊎◌, List, [], ◌∷◌, eqb}
+use Rattle.prelude.specs.Kit.{arith, false≢true, ◌∙◌, sym, inl, inr, some, none, eqb-true, not-true, not-false}
 use Rattle.semantics.specs.Types.{some_if, all_are, same}
 
 -- ---- two tests

@@ -1,5 +1,6 @@
 -- A function changed at one number.
-use Rattle.prelude.specs.Kit.{ℕ, ◌≡◌, refl, sym, ◌≢◌, ne_eqb, eq-eqb}
+use Rattle.std.specs.Prelude.{ℕ, ◌≡◌, refl, ◌≢◌}
+use Rattle.prelude.specs.Kit.{sym, ne_eqb, eq-eqb}
 use Rattle.semantics.specs.Basics.{updated}
 
 pub updated_same : {A : Type 0} (f : ℕ → A) (x : ℕ) (a : A) → updated f x a x ≡ a

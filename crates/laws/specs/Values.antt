@@ -1,5 +1,6 @@
 -- Arrays as values, made of a list of values.
-use Rattle.prelude.specs.Kit.{suc, ◌≡◌, refl, ap, List, [], ◌∷◌, length}
+use Rattle.std.specs.Prelude.{suc, ◌≡◌, refl, List, [], ◌∷◌, length}
+use Rattle.prelude.specs.Kit.{ap}
 use Rattle.semantics.specs.Value.{Value, list, items, of_list}
 use Rattle.semantics.specs.Saved.{size_of}
 

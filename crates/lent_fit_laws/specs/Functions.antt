@@ -1,7 +1,7 @@
 -- Functions and the whole code by positions are tested as `fit` tests them.
-use Rattle.prelude.specs.Kit.{ℕ, ◌≤◌, ◌+◌, ◌<◌, suc, zero, ◌*◌, arith, true, false, Bool, cond, not, ◌≡◌, refl, ◌∙◌, ap}
-use Rattle.prelude.specs.Kit.{subst, some, none, Option, List, [], ◌∷◌, ◌++◌, map, eqb, ℤ, pos, length, get_or, take}
-use Rattle.prelude.specs.Kit.{length-append, length-map, lt-ltb}
+use Rattle.std.specs.Prelude.{ℕ, ◌≤◌, ◌+◌, ◌<◌, suc, zero, ◌*◌, true, false, Bool, cond, not, ◌≡◌, refl, List, []}
+use Rattle.std.specs.Prelude.{◌∷◌, ◌++◌, map, eqb, ℤ, pos, length, get_or, take}
+use Rattle.prelude.specs.Kit.{arith, ◌∙◌, ap, subst, some, none, Option, length-append, length-map, lt-ltb}
 use Rattle.semantics.specs.Outcome.{stop, onward, ◌>>=◌, ◌>>◌, give, require}
 use Rattle.semantics.specs.Types.{Signature}
 use Rattle.semantics.specs.Code as C

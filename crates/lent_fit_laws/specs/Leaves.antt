@@ -1,7 +1,7 @@
 -- Lines without trees: what is read of their rows, and that the walk by positions tests them as `fit` does.
-use Rattle.prelude.specs.Kit.{ℕ, ◌≤◌, ◌+◌, ◌<◌, suc, zero, ◌*◌, arith, true, false, Bool, cond, ◌&&◌, not, ◌≡◌, refl}
-use Rattle.prelude.specs.Kit.{◌∙◌, sym, ap, some, none, Option, List, map, eqb, ltb, ℤ, pos, length, get_or, ne_eqb}
-use Rattle.prelude.specs.Kit.{lt-ltb, le-ltb}
+use Rattle.std.specs.Prelude.{ℕ, ◌≤◌, ◌+◌, ◌<◌, suc, zero, ◌*◌, true, false, Bool, cond, ◌&&◌, not, ◌≡◌, refl, List}
+use Rattle.std.specs.Prelude.{map, eqb, ltb, ℤ, pos, length, get_or}
+use Rattle.prelude.specs.Kit.{arith, ◌∙◌, sym, ap, some, none, Option, ne_eqb, lt-ltb, le-ltb}
 use Rattle.semantics.specs.Outcome.{done, stop, onward, ◌>>=◌, ◌>>◌, give, require}
 use Rattle.semantics.specs.Number.{sum, difference, less}
 use Rattle.semantics.specs.Kinds.{Leaf, operation, call, literal, index, length_of, iota, replicate, leaf_kind, Loop}

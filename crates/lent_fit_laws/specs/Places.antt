@@ -1,6 +1,6 @@
 -- The table of starts that the first walk promises: each function's line is behind the rows of those before it.
-use Rattle.prelude.specs.Kit.{ℕ, ◌≤◌, ◌+◌, ◌<◌, suc, zero, arith, ◌≡◌, ◌∙◌, List, [], ◌∷◌, ◌++◌, map, length, take}
-use Rattle.prelude.specs.Kit.{length-append, length-map}
+use Rattle.std.specs.Prelude.{ℕ, ◌≤◌, ◌+◌, ◌<◌, suc, zero, ◌≡◌, List, [], ◌∷◌, ◌++◌, map, length, take}
+use Rattle.prelude.specs.Kit.{arith, ◌∙◌, length-append, length-map}
 use Rattle.semantics.specs.Code as C
 use Rattle.semantics_lent.specs.Form.{Lent}
 use Rattle.lent_passing.specs.Functions.{parameter_row, lent_function, lent_code}

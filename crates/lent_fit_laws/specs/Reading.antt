@@ -1,6 +1,6 @@
 -- What the second walk reads where rows stand: atoms, and the parts of an operand.
-use Rattle.prelude.specs.Kit.{ℕ, ◌+◌, ◌<◌, ◌*◌, ◌%◌, ◌/◌, arith, ◌≡◌, refl, ◌∙◌, ap, List, [], ◌∷◌, map, ℤ, pos, length}
-use Rattle.prelude.specs.Kit.{get_or}
+use Rattle.std.specs.Prelude.{ℕ, ◌+◌, ◌<◌, ◌*◌, ◌%◌, ◌/◌, ◌≡◌, refl, List, [], ◌∷◌, map, ℤ, pos, length, get_or}
+use Rattle.prelude.specs.Kit.{arith, ◌∙◌, ap}
 use Rattle.semantics.specs.Code as C
 use Rattle.semantics.specs.Code.{atom_row}
 use Rattle.lent_passing.specs.Reading.{SmallAtom, SmallAtoms}

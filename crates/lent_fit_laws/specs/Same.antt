@@ -1,6 +1,6 @@
 -- The second walk by positions is `fit` where the rows of trees in form stand.
-use Rattle.prelude.specs.Kit.{ℕ, ◌+◌, suc, arith, true, false, Bool, ◌&&◌, not, ◌≡◌, refl, sym, ap, subst, some, none}
-use Rattle.prelude.specs.Kit.{Option, ◌∷◌, ◌++◌, map, eqb, ltb, length, length-append, length-map}
+use Rattle.std.specs.Prelude.{ℕ, ◌+◌, suc, true, false, Bool, ◌&&◌, not, ◌≡◌, refl, ◌∷◌, ◌++◌, map, eqb, ltb, length}
+use Rattle.prelude.specs.Kit.{arith, sym, ap, subst, some, none, Option, length-append, length-map}
 use Rattle.semantics.specs.Outcome.{Outcome, done, stop, Run, onward, ◌>>=◌, ◌>>◌, give, require}
 use Rattle.semantics.specs.Types.{Signature, leaf_rule, is_none}
 use Rattle.semantics.specs.Code as C

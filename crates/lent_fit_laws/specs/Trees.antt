@@ -1,8 +1,8 @@
 -- Trees by positions are tested as `fit` tests them, where the rows of trees in form stand.
-use Rattle.prelude.specs.Kit.{ℕ, ◌≤◌, ◌+◌, ◌<◌, suc, zero, ◌*◌, arith, dec_lt, ℕ_discrete, true, false, Bool, cond, ◌&&◌}
-use Rattle.prelude.specs.Kit.{not, false≢true, ◌≡◌, refl, ◌∙◌, sym, ap, subst, fun_ext, some, none, Option, List, []}
-use Rattle.prelude.specs.Kit.{◌∷◌, ◌++◌, map, eqb, ltb, leb, ℤ, pos, length, get_or, length-append, length-map, ne_eqb}
-use Rattle.prelude.specs.Kit.{lt-ltb, eq-eqb, le-ltb, le-leb, lt-leb}
+use Rattle.std.specs.Prelude.{ℕ, ◌≤◌, ◌+◌, ◌<◌, suc, zero, ◌*◌, true, false, Bool, cond, ◌&&◌, not, ◌≡◌, refl, List}
+use Rattle.std.specs.Prelude.{[], ◌∷◌, ◌++◌, map, eqb, ltb, leb, ℤ, pos, length, get_or}
+use Rattle.prelude.specs.Kit.{arith, dec_lt, ℕ_discrete, false≢true, ◌∙◌, sym, ap, subst, fun_ext, some, none, Option}
+use Rattle.prelude.specs.Kit.{length-append, length-map, ne_eqb, lt-ltb, eq-eqb, le-ltb, le-leb, lt-leb}
 use Rattle.semantics.specs.Outcome.{Outcome, done, stop, Run, onward, ◌>>=◌, ◌>>◌, give, require}
 use Rattle.semantics.specs.Kinds.{Leaf, leaf_kind, Loop, mapping, filtering, reducing, rewriting, loop_kind}
 use Rattle.semantics.specs.Kinds.{packed_names}

@@ -1,6 +1,6 @@
 -- The second walk of the code is `fit` where `form` accepted: the statement that the engine's code is held to.
-use Rattle.prelude.specs.Kit.{ℕ, ◌≤◌, ◌+◌, ◌<◌, suc, zero, min, arith, ◌≡◌, refl, ◌∙◌, sym, ap, subst, List, [], ◌∷◌, ℤ}
-use Rattle.prelude.specs.Kit.{length, take, length-take}
+use Rattle.std.specs.Prelude.{ℕ, ◌≤◌, ◌+◌, ◌<◌, suc, zero, min, ◌≡◌, refl, List, [], ◌∷◌, ℤ, length, take}
+use Rattle.prelude.specs.Kit.{arith, ◌∙◌, sym, ap, subst, length-take}
 use Rattle.semantics.specs.Outcome.{Outcome, done}
 use Rattle.semantics.specs.Code.{Row}
 use Rattle.semantics.specs.Annotate.{NameDepths}

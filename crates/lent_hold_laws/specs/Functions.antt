@@ -1,6 +1,6 @@
 -- Where the rows of functions stand, the walk by positions is the walk over the functions.
-use Rattle.prelude.specs.Kit.{ℕ, ◌≤◌, ◌+◌, suc, ◌*◌, ◌%◌, arith, not, ◌≡◌, refl, ◌∙◌, sym, ap, subst, Option, List, []}
-use Rattle.prelude.specs.Kit.{◌∷◌, map, ℤ, length, length-append, length-map}
+use Rattle.std.specs.Prelude.{ℕ, ◌≤◌, ◌+◌, suc, ◌*◌, ◌%◌, not, ◌≡◌, refl, List, [], ◌∷◌, map, ℤ, length}
+use Rattle.prelude.specs.Kit.{arith, ◌∙◌, sym, ap, subst, Option, length-append, length-map}
 use Rattle.semantics.specs.Outcome.{Outcome, done, stop, onward}
 use Rattle.semantics.specs.Kinds.{Borrowing, picked}
 use Rattle.semantics.specs.Syntax.{Parameter}

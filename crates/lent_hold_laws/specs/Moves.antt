@@ -1,6 +1,6 @@
 -- How far the walk over trees goes: past the rows of its tree.
-use Rattle.prelude.specs.Kit.{ℕ, ◌+◌, suc, arith, true, false, Bool, cond, ◌≡◌, refl, subst, List, [], ◌∷◌, ◌++◌, map}
-use Rattle.prelude.specs.Kit.{ltb, length, length-append, length-map}
+use Rattle.std.specs.Prelude.{ℕ, ◌+◌, suc, true, false, Bool, cond, ◌≡◌, refl, List, [], ◌∷◌, ◌++◌, map, ltb, length}
+use Rattle.prelude.specs.Kit.{arith, subst, length-append, length-map}
 use Rattle.semantics.specs.Outcome.{done, onward, require}
 use Rattle.semantics.specs.Kinds.{Borrowing, leaf_hands, leaf_reads, loop_hands, loop_reads, element_name, carried_name}
 use Rattle.semantics.specs.Code as C

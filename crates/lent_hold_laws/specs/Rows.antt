@@ -1,6 +1,6 @@
 -- What the third walk reads where rows stand: they are not more than the code, and the atoms of a line.
-use Rattle.prelude.specs.Kit.{ℕ, ◌≤◌, ◌+◌, suc, zero, arith, false, ◌≡◌, refl, ◌∙◌, sym, ap, List, [], ◌∷◌, map, ℤ}
-use Rattle.prelude.specs.Kit.{length, get_or}
+use Rattle.std.specs.Prelude.{ℕ, ◌≤◌, ◌+◌, suc, zero, false, ◌≡◌, refl, List, [], ◌∷◌, map, ℤ, length, get_or}
+use Rattle.prelude.specs.Kit.{arith, ◌∙◌, sym, ap}
 use Rattle.semantics.specs.Code as C
 use Rattle.semantics.specs.Code.{Row, atom_row}
 use Rattle.machine_code.specs.Reading.{is_atom}

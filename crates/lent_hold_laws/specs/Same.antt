@@ -1,7 +1,7 @@
 -- Where the rows of a tree stand from a position on, the walk by positions is the walk over the tree.
-use Rattle.prelude.specs.Kit.{ℕ, ◌≤◌, ◌+◌, ◌<◌, suc, zero, ◌*◌, ◌%◌, ◌/◌, pred, arith, true, false, Bool, ◌≡◌, refl}
-use Rattle.prelude.specs.Kit.{◌∙◌, sym, ap, subst, some, none, Option, List, [], ◌∷◌, map, ℤ, length, get_or}
-use Rattle.prelude.specs.Kit.{length-append, length-map}
+use Rattle.std.specs.Prelude.{ℕ, ◌≤◌, ◌+◌, ◌<◌, suc, zero, ◌*◌, ◌%◌, ◌/◌, pred, true, false, Bool, ◌≡◌, refl, List}
+use Rattle.std.specs.Prelude.{[], ◌∷◌, map, ℤ, length, get_or}
+use Rattle.prelude.specs.Kit.{arith, ◌∙◌, sym, ap, subst, some, none, Option, length-append, length-map}
 use Rattle.semantics.specs.Outcome.{Outcome, done, stop, onward, require}
 use Rattle.semantics.specs.Number.{Operation, sum, difference, less}
 use Rattle.semantics.specs.Kinds.{Borrowing, Leaf, operation, call, literal, index, length_of, iota, replicate}

@@ -1,6 +1,7 @@
 -- The third walk by positions is `hold` where form and fit accepted: the statement that the engine's code is held to.
-use Rattle.prelude.specs.Kit.{ℕ, ◌≤◌, ◌+◌, ◌<◌, suc, zero, arith, dec_lt, true, false, Bool, cond, ◌≡◌, refl, ◌∙◌, sym}
-use Rattle.prelude.specs.Kit.{ap, fun_ext, Option, List, [], ◌∷◌, map, ltb, ℤ, length, get_or, lt-ltb, le-ltb}
+use Rattle.std.specs.Prelude.{ℕ, ◌≤◌, ◌+◌, ◌<◌, suc, zero, true, false, Bool, cond, ◌≡◌, refl, List, [], ◌∷◌, map}
+use Rattle.std.specs.Prelude.{ltb, ℤ, length, get_or}
+use Rattle.prelude.specs.Kit.{arith, dec_lt, ◌∙◌, sym, ap, fun_ext, Option, lt-ltb, le-ltb}
 use Rattle.laws.specs.Tests.{some_same, not_some}
 use Rattle.semantics.specs.Outcome.{done, stop, onward, give}
 use Rattle.semantics.specs.Kinds.{Borrowing}

@@ -1,6 +1,7 @@
 -- Lent code that passes the check, with the table of its functions: a delivery over positions is that of its program.
-use Rattle.prelude.specs.Kit.{ℕ, ◌+◌, ◌<◌, suc, zero, ◌*◌, ◌%◌, arith, true, ◌≡◌, refl, ◌∙◌, sym, ap, subst, List, []}
-use Rattle.prelude.specs.Kit.{◌∷◌, ◌++◌, map, ℤ, length, get_or, length-map, get_or-map}
+use Rattle.std.specs.Prelude.{ℕ, ◌+◌, ◌<◌, suc, zero, ◌*◌, ◌%◌, true, ◌≡◌, refl, List, [], ◌∷◌, ◌++◌, map, ℤ, length}
+use Rattle.std.specs.Prelude.{get_or}
+use Rattle.prelude.specs.Kit.{arith, ◌∙◌, sym, ap, subst, length-map, get_or-map}
 use Rattle.semantics.specs.Outcome.{done}
 use Rattle.semantics.specs.Syntax.{Parameter}
 use Rattle.semantics.specs.Types.{Signature}

@@ -1,7 +1,8 @@
 -- The table that `machine_table` fills for lent code in form: the lines of its functions, and where its trees end.
-use Rattle.prelude.specs.Kit.{ℕ, ◌≤◌, ◌+◌, ◌<◌, ◌-◌, suc, zero, ◌*◌, min, arith, ◌≡◌, refl, ◌∙◌, sym, ap, subst, ap₂}
-use Rattle.prelude.specs.Kit.{List, [], ◌∷◌, ◌++◌, map, append_assoc, ℤ, pos, length, get_or, get_or-eq_default, take}
-use Rattle.prelude.specs.Kit.{length-append, length-take, length-map, get_or-append_seam}
+use Rattle.std.specs.Prelude.{ℕ, ◌≤◌, ◌+◌, ◌<◌, ◌-◌, suc, zero, ◌*◌, min, ◌≡◌, refl, List, [], ◌∷◌, ◌++◌, map, ℤ, pos}
+use Rattle.std.specs.Prelude.{length, get_or, take}
+use Rattle.prelude.specs.Kit.{arith, ◌∙◌, sym, ap, subst, ap₂, append_assoc, get_or-eq_default, length-append}
+use Rattle.prelude.specs.Kit.{length-take, length-map, get_or-append_seam}
 use Rattle.semantics.specs.Annotate.{NameDepths}
 use Rattle.semantics_lent.specs.Form.{Lent, paired, code_length, lent_rows}
 use Rattle.machine_code.specs.Reading.{start_in, depth_in}

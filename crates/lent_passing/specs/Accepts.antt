@@ -1,6 +1,7 @@
 -- `fits-say`: lent code that `form` and `fit` accept is what the soundness of holds asks for.
-use Rattle.prelude.specs.Kit.{ℕ, ◌≤◌, ◌+◌, ◌<◌, suc, zero, arith, true, false, Bool, not, ◌||◌, ◌≡◌, refl, ◌∙◌, sym, ap}
-use Rattle.prelude.specs.Kit.{subst, ap₂, List, [], ◌∷◌, map, eqb, length, get_or, length-append, eqb-true, not-true}
+use Rattle.std.specs.Prelude.{ℕ, ◌≤◌, ◌+◌, ◌<◌, suc, zero, true, false, Bool, not, ◌||◌, ◌≡◌, refl, List, [], ◌∷◌}
+use Rattle.std.specs.Prelude.{map, eqb, length, get_or}
+use Rattle.prelude.specs.Kit.{arith, ◌∙◌, sym, ap, subst, ap₂, length-append, eqb-true, not-true}
 use Rattle.semantics.specs.Outcome.{Outcome, done, stop, onward}
 use Rattle.semantics.specs.Syntax.{Parameter}
 use Rattle.semantics.specs.Types.{Signature, same}

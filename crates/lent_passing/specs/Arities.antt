@@ -1,6 +1,6 @@
 -- The functions' lines among the rows of lent code.
-use Rattle.prelude.specs.Kit.{ℕ, ◌≤◌, ◌+◌, ◌*◌, arith, ◌≡◌, refl, ◌∙◌, ap, ap₂, some, Option, List, [], ◌∷◌, ◌++◌, map}
-use Rattle.prelude.specs.Kit.{append_assoc, length}
+use Rattle.std.specs.Prelude.{ℕ, ◌≤◌, ◌+◌, ◌*◌, ◌≡◌, refl, List, [], ◌∷◌, ◌++◌, map, length}
+use Rattle.prelude.specs.Kit.{arith, ◌∙◌, ap, ap₂, some, Option, append_assoc}
 use Rattle.semantics.specs.Number.{sum, difference, less}
 use Rattle.semantics.specs.Kinds.{Leaf, operation, call, literal, index, length_of, iota, replicate, Loop, mapping}
 use Rattle.semantics.specs.Kinds.{filtering, reducing, rewriting, leaf_kind, leaf_operand, loop_kind, packed_names}

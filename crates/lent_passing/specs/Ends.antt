@@ -1,5 +1,6 @@
 -- What is known of a run that ends.
-use Rattle.prelude.specs.Kit.{ℕ, true, false, Bool, ◌≡◌, refl, subst}
+use Rattle.std.specs.Prelude.{ℕ, true, false, Bool, ◌≡◌, refl}
+use Rattle.prelude.specs.Kit.{subst}
 use Rattle.semantics.specs.Outcome.{Outcome, done, stop, Run, onward, require}
 
 -- of its answer and its state, if it ends

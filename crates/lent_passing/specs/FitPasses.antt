@@ -1,7 +1,8 @@
 -- A tree that fits and is scoped, and in which no name is bound twice, is accepted by `fit`.
-use Rattle.prelude.specs.Kit.{ℕ, ◌+◌, ◌<◌, suc, arith, true, false, Bool, ◌&&◌, not, false≢true, true≢false, ◌≡◌, refl}
-use Rattle.prelude.specs.Kit.{◌∙◌, sym, ap, subst, inl, inr, ◌≢◌, some, Option, List, [], ◌∷◌, ◌++◌, map, eqb, ltb}
-use Rattle.prelude.specs.Kit.{length, lt-ltb, eq-eqb, eqb-true, not-true}
+use Rattle.std.specs.Prelude.{ℕ, ◌+◌, ◌<◌, suc, true, false, Bool, ◌&&◌, not, ◌≡◌, refl, ◌≢◌, List, [], ◌∷◌, ◌++◌}
+use Rattle.std.specs.Prelude.{map, eqb, ltb, length}
+use Rattle.prelude.specs.Kit.{arith, false≢true, true≢false, ◌∙◌, sym, ap, subst, inl, inr, some, Option, lt-ltb}
+use Rattle.prelude.specs.Kit.{eq-eqb, eqb-true, not-true}
 use Rattle.semantics.specs.Outcome.{Outcome, done, onward, ◌>>=◌, ◌>>◌, give, require}
 use Rattle.semantics.specs.Kinds.{Leaf, Loop, mapping, filtering, reducing, rewriting}
 use Rattle.semantics.specs.Types.{leaf_rule, loop_rule, is_none}

@@ -1,7 +1,8 @@
 -- A tree that `fit` accepts fits, and is scoped.
-use Rattle.prelude.specs.Kit.{ℕ, ◌+◌, ◌<◌, suc, pred, arith, true, false, Bool, ◌&&◌, not, ◌≡◌, refl, ◌∙◌, sym, ap}
-use Rattle.prelude.specs.Kit.{subst, ap₂, inl, inr, ◌⊎◌, some, none, Option, List, [], ◌∷◌, ◌++◌, map, eqb, ltb, length}
-use Rattle.prelude.specs.Kit.{eq-eqb, eqb-true, ltb-true, not-true, lt-leb}
+use Rattle.std.specs.Prelude.{ℕ, ◌+◌, ◌<◌, suc, pred, true, false, Bool, ◌&&◌, not, ◌≡◌, refl, ◌⊎◌, List, [], ◌∷◌}
+use Rattle.std.specs.Prelude.{◌++◌, map, eqb, ltb, length}
+use Rattle.prelude.specs.Kit.{arith, ◌∙◌, sym, ap, subst, ap₂, inl, inr, some, none, Option, eq-eqb, eqb-true}
+use Rattle.prelude.specs.Kit.{ltb-true, not-true, lt-leb}
 use Rattle.semantics.specs.Outcome.{onward}
 use Rattle.semantics.specs.Kinds.{Leaf, operation, call, literal, index, length_of, iota, replicate, Loop, mapping}
 use Rattle.semantics.specs.Kinds.{filtering, reducing, rewriting}

@@ -1,7 +1,7 @@
 -- What `fit` accepts fits and is scoped.
-use Rattle.prelude.specs.Kit.{ℕ, ◌≤◌, ◌<◌, suc, zero, pred, arith, true, false, Bool, ◌&&◌, not, false≢true, ◌||◌}
-use Rattle.prelude.specs.Kit.{true≢false, ◌≡◌, refl, ◌∙◌, sym, ap, ap₂, inl, inr, ◌≢◌, ◌⊎◌, List, [], ◌∷◌, map, eqb}
-use Rattle.prelude.specs.Kit.{length, eq-eqb, eqb-true, not-true}
+use Rattle.std.specs.Prelude.{ℕ, ◌≤◌, ◌<◌, suc, zero, pred, true, false, Bool, ◌&&◌, not, ◌||◌, ◌≡◌, refl, ◌≢◌, ◌⊎◌}
+use Rattle.std.specs.Prelude.{List, [], ◌∷◌, map, eqb, length}
+use Rattle.prelude.specs.Kit.{arith, false≢true, true≢false, ◌∙◌, sym, ap, ap₂, inl, inr, eq-eqb, eqb-true, not-true}
 use Rattle.semantics.specs.Basics.{updated}
 use Rattle.semantics.specs.Kinds.{Loop, mapping, filtering, reducing, rewriting}
 use Rattle.semantics.specs.Code.{Atom, number, name}

@@ -1,7 +1,7 @@
 -- A tree that fits and is scoped, with trees that are not too deep, is in form.
-use Rattle.prelude.specs.Kit.{ℕ, ◌≤◌, ◌<◌, pred, arith, true, false, false≢true, ◌≡◌, refl, ◌∙◌, sym, ap, subst, inl}
-use Rattle.prelude.specs.Kit.{inr, some, none, Option, List, [], ◌∷◌, map, eqb, length, get_or, length-map, eqb-true}
-use Rattle.prelude.specs.Kit.{leb-false}
+use Rattle.std.specs.Prelude.{ℕ, ◌≤◌, ◌<◌, pred, true, false, ◌≡◌, refl, List, [], ◌∷◌, map, eqb, length, get_or}
+use Rattle.prelude.specs.Kit.{arith, false≢true, ◌∙◌, sym, ap, subst, inl, inr, some, none, Option, length-map}
+use Rattle.prelude.specs.Kit.{eqb-true, leb-false}
 use Rattle.semantics.specs.Kinds.{Leaf, operation, call, literal, index, length_of, iota, replicate, Loop, mapping}
 use Rattle.semantics.specs.Kinds.{filtering, reducing, rewriting}
 use Rattle.semantics.specs.Types.{same}

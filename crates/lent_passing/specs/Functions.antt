@@ -1,7 +1,8 @@
 -- The functions of lent code are read back from their rows.
-use Rattle.prelude.specs.Kit.{ℕ, ◌≤◌, ◌+◌, ◌<◌, suc, zero, ◌*◌, arith, false, Bool, ◌≡◌, refl, ◌∙◌, sym, ap, some}
-use Rattle.prelude.specs.Kit.{Option, List, [], ◌∷◌, ◌++◌, map, append_assoc, eqb, pos, length, get_or, drop}
-use Rattle.prelude.specs.Kit.{length-append, length-map, lt-ltb, eq-eqb, le-ltb}
+use Rattle.std.specs.Prelude.{ℕ, ◌≤◌, ◌+◌, ◌<◌, suc, zero, ◌*◌, false, Bool, ◌≡◌, refl, List, [], ◌∷◌, ◌++◌, map, eqb}
+use Rattle.std.specs.Prelude.{pos, length, get_or, drop}
+use Rattle.prelude.specs.Kit.{arith, ◌∙◌, sym, ap, some, Option, append_assoc, length-append, length-map, lt-ltb}
+use Rattle.prelude.specs.Kit.{eq-eqb, le-ltb}
 use Rattle.semantics.specs.Outcome.{done, ◌>>=◌, ◌>>◌, give, require, times}
 use Rattle.semantics.specs.Syntax.{Parameter}
 use Rattle.semantics.specs.Code as C

@@ -1,6 +1,7 @@
 -- The bodies of an accepted script's functions have at most 64 levels.
-use Rattle.prelude.specs.Kit.{ℕ, ◌≤◌, ◌+◌, suc, zero, ◌*◌, arith, true, false, Bool, cond, ◌&&◌, false≢true, ◌≡◌, refl}
-use Rattle.prelude.specs.Kit.{ap, subst, some, none, Option, List, [], ◌∷◌, eqb, ltb, leb, length, take, drop, leb-true}
+use Rattle.std.specs.Prelude.{ℕ, ◌≤◌, ◌+◌, suc, zero, ◌*◌, true, false, Bool, cond, ◌&&◌, ◌≡◌, refl, List, [], ◌∷◌}
+use Rattle.std.specs.Prelude.{eqb, ltb, leb, length, take, drop}
+use Rattle.prelude.specs.Kit.{arith, false≢true, ap, subst, some, none, Option, leb-true}
 use Rattle.semantics.specs.Outcome.{Outcome, done, stop, onward, ◌>>=◌, ◌>>◌, give, times}
 use Rattle.semantics.specs.Number.{bytes_at}
 use Rattle.semantics.specs.Syntax as S

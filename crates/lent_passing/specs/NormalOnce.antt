@@ -1,6 +1,7 @@
 -- The normal form of an expression binds no name twice, and its trees are no deeper than the expression.
-use Rattle.prelude.specs.Kit.{ℕ, ◌≤◌, ◌+◌, ◌<◌, suc, zero, pred, arith, true, false, Bool, ◌&&◌, not, ◌≡◌, refl, ◌∙◌}
-use Rattle.prelude.specs.Kit.{ap, subst, inl, inr, List, [], ◌∷◌, map, eqb, length, eqb-true}
+use Rattle.std.specs.Prelude.{ℕ, ◌≤◌, ◌+◌, ◌<◌, suc, zero, pred, true, false, Bool, ◌&&◌, not, ◌≡◌, refl, List, []}
+use Rattle.std.specs.Prelude.{◌∷◌, map, eqb, length}
+use Rattle.prelude.specs.Kit.{arith, ◌∙◌, ap, subst, inl, inr, eqb-true}
 use Rattle.semantics.specs.Syntax as E
 use Rattle.semantics.specs.Syntax.{Expr, Exprs}
 use Rattle.semantics.specs.Basics.{updated}

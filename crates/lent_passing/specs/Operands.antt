@@ -1,5 +1,6 @@
 -- The parts of an operand are those that it was packed from.
-use Rattle.prelude.specs.Kit.{ℕ, ◌≤◌, ◌+◌, ◌<◌, ◌*◌, ◌%◌, ◌/◌, arith, ◌&&◌, ◌≡◌, refl, some, leb, pos, get_or, le-leb}
+use Rattle.std.specs.Prelude.{ℕ, ◌≤◌, ◌+◌, ◌<◌, ◌*◌, ◌%◌, ◌/◌, ◌&&◌, ◌≡◌, refl, leb, pos, get_or}
+use Rattle.prelude.specs.Kit.{arith, some, le-leb}
 use Rattle.semantics_lent.specs.Form.{parts_of, first_limits, second_limits, third_limits, some_parts}
 
 -- over an operand packed from three parts

@@ -1,7 +1,7 @@
 -- Document 02, order 10, over the definitions' calls: what passes touches no free cell, leaves none but the totals',
 -- and computes what it means with retains and releases ignored; and all code from the translator passes.
-use Rattle.prelude.specs.Kit.{ℕ, ◌≤◌, ◌<◌, ◌-◌, arith, true, false, Bool, cond, ◌≡◌, refl, ◌∙◌, sym, ap, subst, List, ℤ}
-use Rattle.prelude.specs.Kit.{length, leb-true}
+use Rattle.std.specs.Prelude.{ℕ, ◌≤◌, ◌<◌, ◌-◌, true, false, Bool, cond, ◌≡◌, refl, List, ℤ, length}
+use Rattle.prelude.specs.Kit.{arith, ◌∙◌, sym, ap, subst, leb-true}
 use Rattle.semantics.specs.Outcome.{Outcome}
 use Rattle.semantics.specs.Syntax.{Script}
 use Rattle.semantics.specs.Annotate.{code}

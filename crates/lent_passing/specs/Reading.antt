@@ -1,6 +1,7 @@
 -- `form` reads back what `rows` writes.
-use Rattle.prelude.specs.Kit.{ℕ, ◌≤◌, ◌+◌, ◌<◌, suc, zero, ◌*◌, pred, arith, ◌≡◌, refl, ◌∙◌, sym, ap, some, none}
-use Rattle.prelude.specs.Kit.{Option, List, [], ◌∷◌, ◌++◌, map, pos, length, get_or, drop, lt-ltb}
+use Rattle.std.specs.Prelude.{ℕ, ◌≤◌, ◌+◌, ◌<◌, suc, zero, ◌*◌, pred, ◌≡◌, refl, List, [], ◌∷◌, ◌++◌, map, pos}
+use Rattle.std.specs.Prelude.{length, get_or, drop}
+use Rattle.prelude.specs.Kit.{arith, ◌∙◌, sym, ap, some, none, Option, lt-ltb}
 use Rattle.semantics.specs.Outcome.{Outcome, done, Run, onward}
 use Rattle.semantics.specs.Number.{sum, difference, less}
 use Rattle.semantics.specs.Kinds.{Leaf, operation, call, literal, index, length_of, iota, replicate, Loop, mapping}

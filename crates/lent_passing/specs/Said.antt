@@ -1,7 +1,8 @@
 -- What `form` reads stands in the rows.
-use Rattle.prelude.specs.Kit.{ℕ, ◌≤◌, ◌+◌, ◌<◌, suc, zero, ◌*◌, ◌%◌, ◌/◌, arith, true, false, Bool, cond, ◌&&◌}
-use Rattle.prelude.specs.Kit.{false≢true, ◌≡◌, refl, ◌∙◌, sym, ap, subst, ap₂, some, none, Option, List, [], ◌∷◌, ◌++◌}
-use Rattle.prelude.specs.Kit.{map, eqb, ltb, leb, ℤ, pos, negsuc, length, get_or, drop, eqb-true, ltb-true, leb-true}
+use Rattle.std.specs.Prelude.{ℕ, ◌≤◌, ◌+◌, ◌<◌, suc, zero, ◌*◌, ◌%◌, ◌/◌, true, false, Bool, cond, ◌&&◌, ◌≡◌, refl}
+use Rattle.std.specs.Prelude.{List, [], ◌∷◌, ◌++◌, map, eqb, ltb, leb, ℤ, pos, negsuc, length, get_or, drop}
+use Rattle.prelude.specs.Kit.{arith, false≢true, ◌∙◌, sym, ap, subst, ap₂, some, none, Option, eqb-true, ltb-true}
+use Rattle.prelude.specs.Kit.{leb-true}
 use Rattle.semantics.specs.Kinds.{Leaf, operation, call, literal, index, length_of, iota, replicate, leaf_kind}
 use Rattle.semantics.specs.Kinds.{leaf_operand, loop_kind, packed_names}
 use Rattle.semantics.specs.Code.{Atom, number, Row, atom_row}

@@ -1,8 +1,8 @@
 -- `form-said`: where `form` accepts, the lines are the rows of the functions that it gives, and these are in form.
-use Rattle.prelude.specs.Kit.{ℕ, ◌≤◌, ◌+◌, ◌<◌, suc, zero, ◌*◌, min, pred, arith, true, false, Bool, ◌||◌, ◌≡◌, refl}
-use Rattle.prelude.specs.Kit.{◌∙◌, sym, ap, subst, some, none, Option, List, [], ◌∷◌, ◌++◌, map, append-nil, eqb, ltb}
-use Rattle.prelude.specs.Kit.{ℤ, pos, length, get_or, length-append, length-take, length-map, drop_of_length-le, eqb-true}
-use Rattle.prelude.specs.Kit.{ltb-false}
+use Rattle.std.specs.Prelude.{ℕ, ◌≤◌, ◌+◌, ◌<◌, suc, zero, ◌*◌, min, pred, true, false, Bool, ◌||◌, ◌≡◌, refl, List}
+use Rattle.std.specs.Prelude.{[], ◌∷◌, ◌++◌, map, eqb, ltb, ℤ, pos, length, get_or}
+use Rattle.prelude.specs.Kit.{arith, ◌∙◌, sym, ap, subst, some, none, Option, append-nil, length-append, length-take}
+use Rattle.prelude.specs.Kit.{length-map, drop_of_length-le, eqb-true, ltb-false}
 use Rattle.semantics.specs.Outcome.{done, onward, ◌>>=◌, give, times}
 use Rattle.semantics.specs.Syntax.{Parameter}
 use Rattle.semantics.specs.Code as C

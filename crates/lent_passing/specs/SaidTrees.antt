@@ -1,7 +1,8 @@
 -- The trees that `form` reads stand in the rows, and are in form.
-use Rattle.prelude.specs.Kit.{ℕ, ◌≤◌, ◌+◌, ◌<◌, ◌-◌, suc, zero, ◌*◌, arith, true, false, Bool, cond, ◌≡◌, refl, ◌∙◌}
-use Rattle.prelude.specs.Kit.{sym, ap, subst, some, none, Option, List, [], ◌∷◌, ◌++◌, map, append_assoc, ltb, pos}
-use Rattle.prelude.specs.Kit.{length, get_or, drop, length-append, length-map, length-drop, eqb-true, ltb-true}
+use Rattle.std.specs.Prelude.{ℕ, ◌≤◌, ◌+◌, ◌<◌, ◌-◌, suc, zero, ◌*◌, true, false, Bool, cond, ◌≡◌, refl, List, []}
+use Rattle.std.specs.Prelude.{◌∷◌, ◌++◌, map, ltb, pos, length, get_or, drop}
+use Rattle.prelude.specs.Kit.{arith, ◌∙◌, sym, ap, subst, some, none, Option, append_assoc, length-append, length-map}
+use Rattle.prelude.specs.Kit.{length-drop, eqb-true, ltb-true}
 use Rattle.semantics.specs.Outcome.{done, stop, onward, ◌>>=◌, give}
 use Rattle.semantics.specs.Kinds.{leaf_kind, leaf_operand, loop_kind, packed_names}
 use Rattle.semantics.specs.Code as C

@@ -1,6 +1,6 @@
 -- The depths that `fit` finds of a script's names are the script's.
-use Rattle.prelude.specs.Kit.{ℕ, ℕ_discrete, true, false, Bool, false≢true, ◌||◌, ◌≡◌, refl, ◌∙◌, sym, ap, inl, inr}
-use Rattle.prelude.specs.Kit.{◌≢◌, ◌⊎◌, List, [], ◌∷◌, map, eqb, eqb-true, eqb-false}
+use Rattle.std.specs.Prelude.{ℕ, true, false, Bool, ◌||◌, ◌≡◌, refl, ◌≢◌, ◌⊎◌, List, [], ◌∷◌, map, eqb}
+use Rattle.prelude.specs.Kit.{ℕ_discrete, false≢true, ◌∙◌, sym, ap, inl, inr, eqb-true, eqb-false}
 use Rattle.semantics.specs.Basics.{updated}
 use Rattle.semantics.specs.Code.{Line, leaf, if_else, loop, retain, release, Tree, end, line, ending}
 use Rattle.semantics.specs.Live.{only, just}

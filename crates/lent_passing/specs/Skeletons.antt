@@ -1,7 +1,7 @@
 -- A tree without its retains and releases: the annotation leaves it as it is, and what is bound in a tree, and how deep
 -- its trees are, depends on it alone.
-use Rattle.prelude.specs.Kit.{ℕ, ◌<◌, pred, true, false, Bool, cond, ◌&&◌, ◌≡◌, refl, ◌∙◌, sym, ap, subst, List, []}
-use Rattle.prelude.specs.Kit.{◌∷◌, map}
+use Rattle.std.specs.Prelude.{ℕ, ◌<◌, pred, true, false, Bool, cond, ◌&&◌, ◌≡◌, refl, List, [], ◌∷◌, map}
+use Rattle.prelude.specs.Kit.{◌∙◌, sym, ap, subst}
 use Rattle.semantics.specs.Basics.{with_if}
 use Rattle.semantics.specs.Kinds.{Loop, mapping, filtering, reducing, rewriting, Borrowing, leaf_hands, leaf_reads}
 use Rattle.semantics.specs.Kinds.{loop_hands, loop_reads, element_name, is_pending}

@@ -1,7 +1,7 @@
 -- `code-passes`: all code from the translator passes.
-use Rattle.prelude.specs.Kit.{ℕ, ◌≤◌, ◌+◌, ◌<◌, ◌-◌, suc, zero, ◌*◌, arith, true, Bool, ◌&&◌, ◌≡◌, refl, ◌∙◌, sym, ap}
-use Rattle.prelude.specs.Kit.{subst, ap₂, some, none, Option, List, [], ◌∷◌, ◌++◌, map, length, get_or, length-append}
-use Rattle.prelude.specs.Kit.{length-map, eq-eqb}
+use Rattle.std.specs.Prelude.{ℕ, ◌≤◌, ◌+◌, ◌<◌, ◌-◌, suc, zero, ◌*◌, true, Bool, ◌&&◌, ◌≡◌, refl, List, [], ◌∷◌, ◌++◌}
+use Rattle.std.specs.Prelude.{map, length, get_or}
+use Rattle.prelude.specs.Kit.{arith, ◌∙◌, sym, ap, subst, ap₂, some, none, Option, length-append, length-map, eq-eqb}
 use Rattle.semantics.specs.Outcome.{done}
 use Rattle.semantics.specs.Syntax.{Parameter, Function, Script, function_at, no_function, main_depth}
 use Rattle.semantics.specs.Types.{Signature, signatures_of, same}

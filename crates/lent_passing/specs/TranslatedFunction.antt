@@ -1,7 +1,7 @@
 -- One function of a translated script: it passes the second walk with the script's depths, and is in form.
-use Rattle.prelude.specs.Kit.{ℕ, ◌≤◌, ◌+◌, ◌<◌, ◌-◌, suc, zero, arith, dec_lt, true, false, Bool, not, false≢true, ◌||◌}
-use Rattle.prelude.specs.Kit.{◌≡◌, refl, ◌∙◌, sym, ap, subst, inl, inr, ◌⊎◌, Option, List, [], ◌∷◌, map, eqb, ltb}
-use Rattle.prelude.specs.Kit.{length, get_or, eq-eqb}
+use Rattle.std.specs.Prelude.{ℕ, ◌≤◌, ◌+◌, ◌<◌, ◌-◌, suc, zero, true, false, Bool, not, ◌||◌, ◌≡◌, refl, ◌⊎◌, List}
+use Rattle.std.specs.Prelude.{[], ◌∷◌, map, eqb, ltb, length, get_or}
+use Rattle.prelude.specs.Kit.{arith, dec_lt, false≢true, ◌∙◌, sym, ap, subst, inl, inr, Option, eq-eqb}
 use Rattle.semantics.specs.Basics.{tabulate, updated}
 use Rattle.semantics.specs.Outcome.{done, onward, require}
 use Rattle.semantics.specs.Syntax.{Parameter, Function, Script}

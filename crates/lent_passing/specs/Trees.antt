@@ -1,7 +1,8 @@
 -- A tree is read back from its rows.
-use Rattle.prelude.specs.Kit.{ℕ, ◌≤◌, ◌+◌, ◌<◌, suc, zero, ◌*◌, arith, Bool, ◌≡◌, refl, ◌∙◌, sym, ap, some, Option}
-use Rattle.prelude.specs.Kit.{List, [], ◌∷◌, ◌++◌, map, append_assoc, pos, length, drop, length-append, length-map}
-use Rattle.prelude.specs.Kit.{lt-ltb, eq-eqb}
+use Rattle.std.specs.Prelude.{ℕ, ◌≤◌, ◌+◌, ◌<◌, suc, zero, ◌*◌, Bool, ◌≡◌, refl, List, [], ◌∷◌, ◌++◌, map, pos}
+use Rattle.std.specs.Prelude.{length, drop}
+use Rattle.prelude.specs.Kit.{arith, ◌∙◌, sym, ap, some, Option, append_assoc, length-append, length-map, lt-ltb}
+use Rattle.prelude.specs.Kit.{eq-eqb}
 use Rattle.semantics.specs.Outcome.{Outcome, done, onward, give}
 use Rattle.semantics.specs.Kinds.{Leaf, Loop, leaf_kind, leaf_operand, loop_kind, packed_names}
 use Rattle.semantics.specs.Code as C

@@ -1,7 +1,8 @@
 -- The two arrays of lent code: its rows, and zeros past them.
-use Rattle.prelude.specs.Kit.{ℕ, ◌≤◌, ◌+◌, ◌<◌, suc, zero, ◌*◌, min, arith, true, false, Bool, true≢false, ◌≡◌, refl}
-use Rattle.prelude.specs.Kit.{◌∙◌, sym, ap, subst, ap₂, List, [], ◌∷◌, ◌++◌, map, append_assoc, append-nil, map-append}
-use Rattle.prelude.specs.Kit.{eqb, ℤ, pos, length, replicate, take, length-append, length-map, length-replicate, le-ltb}
+use Rattle.std.specs.Prelude.{ℕ, ◌≤◌, ◌+◌, ◌<◌, suc, zero, ◌*◌, min, true, false, Bool, ◌≡◌, refl, List, [], ◌∷◌}
+use Rattle.std.specs.Prelude.{◌++◌, map, eqb, ℤ, pos, length, replicate, take}
+use Rattle.prelude.specs.Kit.{arith, true≢false, ◌∙◌, sym, ap, subst, ap₂, append_assoc, append-nil, map-append}
+use Rattle.prelude.specs.Kit.{length-append, length-map, length-replicate, le-ltb}
 use Rattle.semantics.specs.Outcome.{done}
 use Rattle.semantics.specs.Number.{is_zero}
 use Rattle.semantics.specs.Code as C

@@ -1,6 +1,7 @@
 -- Engines that do not meet `WorksLent`: one that refuses all lent code, one that works no delivery, and one that clears
 -- the lent code.
-use Rattle.prelude.specs.Kit.{ℕ, arith, ◌≡◌, refl, ◌∙◌, sym, ap, subst, List, [], ◌∷◌, ℤ, pos, length, replicate}
+use Rattle.std.specs.Prelude.{ℕ, ◌≡◌, refl, List, [], ◌∷◌, ℤ, pos, length, replicate}
+use Rattle.prelude.specs.Kit.{arith, ◌∙◌, sym, ap, subst}
 use Rattle.semantics.specs.Value.{Value, items, numbers, first_totals}
 use Rattle.semantics.specs.Calls.{Verdict, accepted, refused, packed, StoreReply, engine_translate, engine_open}
 use Rattle.semantics.specs.Ledger.{Delivery}

@@ -1,7 +1,7 @@
 -- `accepted-disciplined`, `accepted-sound`: what passes is disciplined, and one delivery by it on a settled store does
 -- what it means with retains and releases ignored.
-use Rattle.prelude.specs.Kit.{ℕ, ◌≤◌, ◌+◌, ◌<◌, arith, true, false, Bool, false≢true, ◌≡◌, refl, ◌∙◌, sym, ap, subst}
-use Rattle.prelude.specs.Kit.{List, [], ◌∷◌, map, ℤ, length, get_or}
+use Rattle.std.specs.Prelude.{ℕ, ◌≤◌, ◌+◌, ◌<◌, true, false, Bool, ◌≡◌, refl, List, [], ◌∷◌, map, ℤ, length, get_or}
+use Rattle.prelude.specs.Kit.{arith, false≢true, ◌∙◌, sym, ap, subst}
 use Rattle.semantics.specs.Outcome.{Outcome, done, stop}
 use Rattle.semantics.specs.Value.{Value, numbers}
 use Rattle.semantics.specs.Types.{Signature}

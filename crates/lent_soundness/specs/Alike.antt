@@ -1,7 +1,7 @@
 -- Two choices of borrowed places that agree at the places that functions have: trees whose depths fit hold by the one
 -- as by the other, and spend alike.
-use Rattle.prelude.specs.Kit.{ℕ, ◌≤◌, ◌+◌, ◌<◌, suc, arith, Bool, not, ◌||◌, ◌≡◌, refl, ◌∙◌, sym, ap, subst, List, []}
-use Rattle.prelude.specs.Kit.{◌∷◌, ◌++◌, map, length, length-map}
+use Rattle.std.specs.Prelude.{ℕ, ◌≤◌, ◌+◌, ◌<◌, suc, Bool, not, ◌||◌, ◌≡◌, refl, List, [], ◌∷◌, ◌++◌, map, length}
+use Rattle.prelude.specs.Kit.{arith, ◌∙◌, sym, ap, subst, length-map}
 use Rattle.semantics.specs.Basics.{with_if}
 use Rattle.semantics.specs.Kinds.{Borrowing, Leaf, operation, call, literal, index, length_of, iota, replicate, picked}
 use Rattle.semantics.specs.Kinds.{leaf_hands, leaf_reads, loop_hands}

@@ -1,5 +1,5 @@
 -- What the answers of a test have, where it does not stop, and what a stop says.
-use Rattle.prelude.specs.Kit.{ℕ, true, false, Bool, ◌≡◌, refl}
+use Rattle.std.specs.Prelude.{ℕ, true, false, Bool, ◌≡◌, refl}
 use Rattle.semantics.specs.Outcome.{Outcome, done, stop, ◌>>=◌, give, require, onward}
 use Rattle.semantics_lent.specs.Form.{Test, must, skip}
 

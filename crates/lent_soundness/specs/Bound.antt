@@ -1,7 +1,7 @@
 -- `none-bound-says`: what the walk asks at the end of an if's first tree, that it leaves holds on no name but those
 -- that were held or lent before, is document 02's "no tree ends with a hold on a name bound in it".
-use Rattle.prelude.specs.Kit.{ℕ, arith, true, false, Bool, cond, false≢true, ◌||◌, ◌≡◌, refl, ◌∙◌, sym, subst, inl, inr}
-use Rattle.prelude.specs.Kit.{◌⊎◌, List, [], ◌∷◌, ◌++◌, eqb, eq-eqb, eqb-true}
+use Rattle.std.specs.Prelude.{ℕ, true, false, Bool, cond, ◌||◌, ◌≡◌, refl, ◌⊎◌, List, [], ◌∷◌, ◌++◌, eqb}
+use Rattle.prelude.specs.Kit.{arith, false≢true, ◌∙◌, sym, subst, inl, inr, eq-eqb, eqb-true}
 use Rattle.semantics.specs.Basics.{occurrences, ◌∈◌, with_if}
 use Rattle.semantics.specs.Kinds.{Borrowing, leaf_hands, loop_hands, is_pending}
 use Rattle.semantics.specs.Code.{Line, leaf, if_else, loop, retain, release, Tree, end, line}

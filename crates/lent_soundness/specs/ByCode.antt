@@ -1,6 +1,6 @@
 -- A delivery by lent code agrees with its entry, and the store stands again: `code_step`.
-use Rattle.prelude.specs.Kit.{ℕ, ◌≤◌, ◌<◌, ◌-◌, arith, true, false, Bool, cond, ◌≡◌, refl, ◌∙◌, sym, ap, subst, Option}
-use Rattle.prelude.specs.Kit.{List, ℤ, eq-eqb}
+use Rattle.std.specs.Prelude.{ℕ, ◌≤◌, ◌<◌, ◌-◌, true, false, Bool, cond, ◌≡◌, refl, List, ℤ}
+use Rattle.prelude.specs.Kit.{arith, ◌∙◌, sym, ap, subst, Option, eq-eqb}
 use Rattle.semantics.specs.Outcome.{Outcome, done, stop}
 use Rattle.semantics.specs.Value.{Value}
 use Rattle.semantics.specs.Meaning.{Meter}

@@ -1,6 +1,6 @@
 -- A delivery by a script agrees with its entry beside deliveries by lent code, and the store stands again: `file-step`.
-use Rattle.prelude.specs.Kit.{ℕ, ◌-◌, arith, true, false, Bool, cond, ◌≡◌, refl, ◌∙◌, sym, ap, subst, some, none}
-use Rattle.prelude.specs.Kit.{Option, List, ℤ, eq-eqb}
+use Rattle.std.specs.Prelude.{ℕ, ◌-◌, true, false, Bool, cond, ◌≡◌, refl, List, ℤ}
+use Rattle.prelude.specs.Kit.{arith, ◌∙◌, sym, ap, subst, some, none, Option, eq-eqb}
 use Rattle.semantics.specs.Outcome.{Outcome, done, stop}
 use Rattle.semantics.specs.Syntax.{Script, main_depth}
 use Rattle.semantics.specs.Value.{Value}

@@ -1,8 +1,9 @@
 -- The walk's counts and sets beside the lists of the discipline: a name is held as often as it stands in the list, and
 -- lent or pending if it stands there. Only arrays do.
-use Rattle.prelude.specs.Kit.{ℕ, ◌≤◌, ◌+◌, ◌<◌, ◌-◌, suc, zero, pred, arith, dec_lt, ℕ_discrete, true, false, Bool, cond}
-use Rattle.prelude.specs.Kit.{◌&&◌, not, false≢true, ◌||◌, ◌≡◌, refl, ◌∙◌, sym, ap, subst, inl, inr, ◌⊎◌, List, [], ◌∷◌}
-use Rattle.prelude.specs.Kit.{◌++◌, eqb, ltb, ne_eqb, lt-ltb, eq-eqb, le-ltb, eqb-true, ltb-true, ltb-false}
+use Rattle.std.specs.Prelude.{ℕ, ◌≤◌, ◌+◌, ◌<◌, ◌-◌, suc, zero, pred, true, false, Bool, cond, ◌&&◌, not, ◌||◌, ◌≡◌}
+use Rattle.std.specs.Prelude.{refl, ◌⊎◌, List, [], ◌∷◌, ◌++◌, eqb, ltb}
+use Rattle.prelude.specs.Kit.{arith, dec_lt, ℕ_discrete, false≢true, ◌∙◌, sym, ap, subst, inl, inr, ne_eqb, lt-ltb}
+use Rattle.prelude.specs.Kit.{eq-eqb, le-ltb, eqb-true, ltb-true, ltb-false}
 use Rattle.semantics.specs.Basics.{all, occurrences, ◌∈◌, with_if}
 use Rattle.semantics.specs.Outcome.{give, ◌>>=◌, ◌>>◌}
 use Rattle.semantics.specs.Code.{Atom, number, name}

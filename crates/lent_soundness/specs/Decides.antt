@@ -1,7 +1,8 @@
 -- `tree-decides`: the third walk decides the discipline of holds. Where it does not stop, the tree is `Holding`, and it
 -- stops only where the tree is not.
-use Rattle.prelude.specs.Kit.{ℕ, ◌≤◌, ◌+◌, ◌<◌, arith, true, false, Bool, cond, false≢true, ◌||◌, ◌≡◌, refl, ◌∙◌, sym}
-use Rattle.prelude.specs.Kit.{inl, inr, ◌⊎◌, List, [], ◌∷◌, ◌++◌, ltb, length}
+use Rattle.std.specs.Prelude.{ℕ, ◌≤◌, ◌+◌, ◌<◌, true, false, Bool, cond, ◌||◌, ◌≡◌, refl, ◌⊎◌, List, [], ◌∷◌, ◌++◌}
+use Rattle.std.specs.Prelude.{ltb, length}
+use Rattle.prelude.specs.Kit.{arith, false≢true, ◌∙◌, sym, inl, inr}
 use Rattle.semantics.specs.Basics.{◌∈◌}
 use Rattle.semantics.specs.Kinds.{Borrowing, Leaf, Loop, leaf_hands, leaf_reads, loop_hands, loop_reads, element_name}
 use Rattle.semantics.specs.Kinds.{carried_name, is_pending}

@@ -1,6 +1,6 @@
 -- The third walk over all functions: it decides whether each is `Holding`.
-use Rattle.prelude.specs.Kit.{ℕ, ◌≤◌, ◌+◌, ◌<◌, suc, zero, arith, Bool, not, ◌≡◌, refl, sym, subst, List, [], ◌∷◌}
-use Rattle.prelude.specs.Kit.{length, get_or}
+use Rattle.std.specs.Prelude.{ℕ, ◌≤◌, ◌+◌, ◌<◌, suc, zero, Bool, not, ◌≡◌, refl, List, [], ◌∷◌, length, get_or}
+use Rattle.prelude.specs.Kit.{arith, sym, subst}
 use Rattle.semantics.specs.Basics.{occurrences}
 use Rattle.semantics.specs.Kinds.{Borrowing, picked}
 use Rattle.semantics.specs.Annotate.{NameDepths}

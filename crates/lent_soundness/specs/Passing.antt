@@ -1,8 +1,9 @@
 -- `code_holds`: the code of every accepted script passes the third walk. The table that is worked from the code borrows
 -- the same places as the one that is worked from the script, of those that its functions have.
-use Rattle.prelude.specs.Kit.{ℕ, ◌≤◌, ◌+◌, ◌<◌, suc, zero, arith, dec_lt, true, false, Bool, ◌&&◌, not, false≢true, ◌≡◌}
-use Rattle.prelude.specs.Kit.{refl, ◌∙◌, sym, ap, subst, List, [], ◌∷◌, map, ltb, length, get_or, get_or-eq_default}
-use Rattle.prelude.specs.Kit.{length-map, lt-ltb, ltb-true}
+use Rattle.std.specs.Prelude.{ℕ, ◌≤◌, ◌+◌, ◌<◌, suc, zero, true, false, Bool, ◌&&◌, not, ◌≡◌, refl, List, [], ◌∷◌}
+use Rattle.std.specs.Prelude.{map, ltb, length, get_or}
+use Rattle.prelude.specs.Kit.{arith, dec_lt, false≢true, ◌∙◌, sym, ap, subst, get_or-eq_default, length-map, lt-ltb}
+use Rattle.prelude.specs.Kit.{ltb-true}
 use Rattle.semantics.specs.Basics.{tabulate}
 use Rattle.semantics.specs.Outcome.{Outcome, done, stop}
 use Rattle.semantics.specs.Kinds.{Borrowing, picked}

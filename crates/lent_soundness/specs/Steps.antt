@@ -1,6 +1,6 @@
 -- One delivery on a store that stands: what is to be shown of it, whether it is by lent code or by a script.
-use Rattle.prelude.specs.Kit.{ℕ, ◌<◌, ◌-◌, suc, zero, ◌^◌, arith, true, false, false≢true, ◌≡◌, refl, ◌∙◌, sym, subst}
-use Rattle.prelude.specs.Kit.{◌≢◌, List, [], eqb, leb, ℤ, length, ne_eqb, leb-true}
+use Rattle.std.specs.Prelude.{ℕ, ◌<◌, ◌-◌, suc, zero, ◌^◌, true, false, ◌≡◌, refl, ◌≢◌, List, [], eqb, leb, ℤ, length}
+use Rattle.prelude.specs.Kit.{arith, false≢true, ◌∙◌, sym, subst, ne_eqb, leb-true}
 use Rattle.semantics.specs.Basics.{occurrences}
 use Rattle.semantics.specs.Value.{Value}
 use Rattle.semantics.specs.Store.{Store, cell_of, cells_taken, free_cells}

@@ -1,5 +1,6 @@
 -- The table of lent code is worked as order 7's, by what its functions hand over, retain or release.
-use Rattle.prelude.specs.Kit.{ℕ, suc, zero, arith, true, ◌≡◌, refl, sym, subst, List, [], ◌∷◌, get_or}
+use Rattle.std.specs.Prelude.{ℕ, suc, zero, true, ◌≡◌, refl, List, [], ◌∷◌, get_or}
+use Rattle.prelude.specs.Kit.{arith, sym, subst}
 use Rattle.semantics.specs.Kinds.{Borrowing}
 use Rattle.semantics.specs.Live.{Set}
 use Rattle.semantics.specs.Borrow.{spent, Table, borrows, all_borrowed}

@@ -1,7 +1,7 @@
 -- What an annotated tree hands over, retains or releases: at least what the plain tree hands over, and no name that is
 -- annotated like a number.
-use Rattle.prelude.specs.Kit.{ℕ, arith, true, false, Bool, ◌&&◌, not, false≢true, ◌||◌, ◌≡◌, refl, ◌∙◌, sym, subst, inl}
-use Rattle.prelude.specs.Kit.{inr, List, [], ◌∷◌, eqb, ne_eqb, ltb-true}
+use Rattle.std.specs.Prelude.{ℕ, true, false, Bool, ◌&&◌, not, ◌||◌, ◌≡◌, refl, List, [], ◌∷◌, eqb}
+use Rattle.prelude.specs.Kit.{arith, false≢true, ◌∙◌, sym, subst, inl, inr, ne_eqb, ltb-true}
 use Rattle.semantics.specs.Basics.{with_if, occurrences, ◌∈◌}
 use Rattle.semantics.specs.Kinds.{Borrowing, Loop, mapping, filtering, reducing, rewriting, leaf_hands, leaf_reads}
 use Rattle.semantics.specs.Kinds.{loop_hands, loop_reads, element_name, is_pending}

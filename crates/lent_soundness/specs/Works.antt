@@ -1,6 +1,7 @@
 -- `works-lent`: over every list of deliveries, by lent code and by scripts as they come, what passes does what it
 -- means, touches no free cell and leaves none but the totals'.
-use Rattle.prelude.specs.Kit.{ℕ, ◌-◌, ◌≡◌, sym, subst, List, [], ◌∷◌, ℤ}
+use Rattle.std.specs.Prelude.{ℕ, ◌-◌, ◌≡◌, List, [], ◌∷◌, ℤ}
+use Rattle.prelude.specs.Kit.{sym, subst}
 use Rattle.semantics.specs.Syntax.{main_depth}
 use Rattle.semantics.specs.Value.{Value, first_totals}
 use Rattle.semantics.specs.Calls.{number_of, StoreReply}

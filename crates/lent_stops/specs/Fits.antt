@@ -1,6 +1,6 @@
 -- The second test, of depths and scopes, walks over the lines of its trees and functions.
-use Rattle.prelude.specs.Kit.{ℕ, ◌≤◌, ◌+◌, suc, arith, true, Bool, not, some, none, Option, List, [], ◌∷◌, map, eqb}
-use Rattle.prelude.specs.Kit.{length}
+use Rattle.std.specs.Prelude.{ℕ, ◌≤◌, ◌+◌, suc, true, Bool, not, List, [], ◌∷◌, map, eqb, length}
+use Rattle.prelude.specs.Kit.{arith, some, none, Option}
 use Rattle.semantics.specs.Outcome.{onward, ◌>>=◌}
 use Rattle.semantics.specs.Syntax.{Parameter}
 use Rattle.semantics.specs.Types.{Signature, leaf_rule, is_none}

@@ -1,8 +1,8 @@
 -- The first test, of form: it stops at one of the rows or at the line after them, and where it ends, the functions that
 -- it gives have no more lines than there are rows.
-use Rattle.prelude.specs.Kit.{ℕ, ◌≤◌, ◌+◌, ◌<◌, suc, zero, min, arith, true, false, Bool, cond, ◌&&◌, ◌||◌, ◌≡◌, refl}
-use Rattle.prelude.specs.Kit.{some, none, Option, List, [], ◌∷◌, eqb, ltb, ℤ, length, get_or, drop, length-take}
-use Rattle.prelude.specs.Kit.{length-drop, eqb-true, ltb-true}
+use Rattle.std.specs.Prelude.{ℕ, ◌≤◌, ◌+◌, ◌<◌, suc, zero, min, true, false, Bool, cond, ◌&&◌, ◌||◌, ◌≡◌, refl, List}
+use Rattle.std.specs.Prelude.{[], ◌∷◌, eqb, ltb, ℤ, length, get_or, drop}
+use Rattle.prelude.specs.Kit.{arith, some, none, Option, length-take, length-drop, eqb-true, ltb-true}
 use Rattle.semantics.specs.Outcome.{done, stop, onward, ◌>>=◌, give, times}
 use Rattle.semantics.specs.Code.{Atom, Line, leaf, if_else, loop, retain, release, Tree, line, Row, row}
 use Rattle.semantics_lent.specs.Form.{Test, fault, code_length, paired, lent_rows, goes_on, Parts, parts_of, Seen}

@@ -1,5 +1,6 @@
 -- The third test, of holds, walks over the lines of its trees and functions.
-use Rattle.prelude.specs.Kit.{ℕ, ◌≤◌, ◌+◌, suc, arith, Bool, not, List, [], ◌∷◌, length, length-map}
+use Rattle.std.specs.Prelude.{ℕ, ◌≤◌, ◌+◌, suc, Bool, not, List, [], ◌∷◌, length}
+use Rattle.prelude.specs.Kit.{arith, length-map}
 use Rattle.semantics.specs.Outcome.{◌>>=◌, give}
 use Rattle.semantics.specs.Kinds.{Borrowing, picked, leaf_hands, loop_hands, loop_reads, element_name, carried_name}
 use Rattle.semantics.specs.Syntax.{Parameter}

@@ -1,5 +1,5 @@
 -- `judged-line`: where lent code is refused, the line at fault is at most 4,096.
-use Rattle.prelude.specs.Kit.{ℕ, ◌≤◌, ◌≡◌, List, ℤ}
+use Rattle.std.specs.Prelude.{ℕ, ◌≤◌, ◌≡◌, List, ℤ}
 use Rattle.semantics.specs.Outcome.{Outcome, done, stop}
 use Rattle.semantics.specs.Annotate.{NameDepths}
 use Rattle.semantics.specs.Borrow.{Table}

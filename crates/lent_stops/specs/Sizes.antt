@@ -1,5 +1,5 @@
 -- How many lines lent code has, by its trees and functions.
-use Rattle.prelude.specs.Kit.{ℕ, ◌+◌, suc, List, [], ◌∷◌, length}
+use Rattle.std.specs.Prelude.{ℕ, ◌+◌, suc, List, [], ◌∷◌, length}
 use Rattle.semantics.specs.Code.{Line, leaf, if_else, loop, retain, release, Tree, end, line}
 use Rattle.semantics_lent.specs.Form.{Lent}
 

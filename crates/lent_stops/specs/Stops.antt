@@ -1,5 +1,6 @@
 -- A test of lent code that ends as is said, or stops at a line that is not past a bound.
-use Rattle.prelude.specs.Kit.{ℕ, ◌≤◌, arith, true, false, Bool, ◌≡◌, subst}
+use Rattle.std.specs.Prelude.{ℕ, ◌≤◌, true, false, Bool, ◌≡◌}
+use Rattle.prelude.specs.Kit.{arith, subst}
 use Rattle.semantics.specs.Outcome.{Outcome, done, stop, Run, onward, require}
 
 -- P of the answer and the next line; or the line at fault is at most m

@@ -1,5 +1,6 @@
 -- Walks over lines: one that goes over n lines, and has these below a bound, stops at no line past it.
-use Rattle.prelude.specs.Kit.{ℕ, ◌≤◌, ◌+◌, arith, true, false, Bool, cond}
+use Rattle.std.specs.Prelude.{ℕ, ◌≤◌, ◌+◌, true, false, Bool, cond}
+use Rattle.prelude.specs.Kit.{arith}
 use Rattle.semantics.specs.Outcome.{◌>>=◌, give}
 use Rattle.semantics_lent.specs.Form.{Test, must, skip}
 use Rattle.lent_stops.specs.Stops.{StopsBy, StopsAtMost, stops_then, stops_test, stops_more}

@@ -1,6 +1,7 @@
 -- Where the atoms of a line stand, the names that their rows spend are those at the places that are handed over.
-use Rattle.prelude.specs.Kit.{ℕ, ◌+◌, suc, ◌%◌, arith, true, false, Bool, ◌||◌, or_assoc, ◌≡◌, refl, ◌∙◌, sym, ap, List}
-use Rattle.prelude.specs.Kit.{[], ◌∷◌, map, eqb, ℤ, length, get_or, ne_eqb, eq-eqb}
+use Rattle.std.specs.Prelude.{ℕ, ◌+◌, suc, ◌%◌, true, false, Bool, ◌||◌, ◌≡◌, refl, List, [], ◌∷◌, map, eqb, ℤ}
+use Rattle.std.specs.Prelude.{length, get_or}
+use Rattle.prelude.specs.Kit.{arith, or_assoc, ◌∙◌, sym, ap, ne_eqb, eq-eqb}
 use Rattle.semantics.specs.Basics.{with_if}
 use Rattle.semantics.specs.Kinds.{Borrowing, picked}
 use Rattle.semantics.specs.Code as C

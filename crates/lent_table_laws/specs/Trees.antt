@@ -1,7 +1,8 @@
 -- Where the rows of a tree stand from a position on, the names that they spend are those that the tree spends.
-use Rattle.prelude.specs.Kit.{ℕ, ◌≤◌, ◌+◌, ◌<◌, suc, zero, ◌*◌, ◌%◌, ◌/◌, pred, arith, true, false, Bool, not}
-use Rattle.prelude.specs.Kit.{false≢true, ◌||◌, or-false, or_assoc, ◌≡◌, refl, ◌∙◌, sym, ap, subst, fun_ext, inl, inr}
-use Rattle.prelude.specs.Kit.{Option, List, [], ◌∷◌, map, eqb, ℤ, pos, length, get_or, length-append, length-map, miss}
+use Rattle.std.specs.Prelude.{ℕ, ◌≤◌, ◌+◌, ◌<◌, suc, zero, ◌*◌, ◌%◌, ◌/◌, pred, true, false, Bool, not, ◌||◌, ◌≡◌}
+use Rattle.std.specs.Prelude.{refl, List, [], ◌∷◌, map, eqb, ℤ, pos, length, get_or}
+use Rattle.prelude.specs.Kit.{arith, false≢true, or-false, or_assoc, ◌∙◌, sym, ap, subst, fun_ext, inl, inr, Option}
+use Rattle.prelude.specs.Kit.{length-append, length-map, miss}
 use Rattle.semantics.specs.Number.{sum, difference, less}
 use Rattle.semantics.specs.Kinds.{Borrowing, Leaf, operation, call, literal, index, length_of, iota, replicate}
 use Rattle.semantics.specs.Kinds.{leaf_kind}

@@ -1,9 +1,9 @@
 -- The table by positions is `lent-table` where the rows of the functions stand: the statement that the engine's table
 -- is held to.
-use Rattle.prelude.specs.Kit.{ℕ, ◌≤◌, ◌+◌, ◌<◌, ◌-◌, suc, zero, ◌*◌, ◌%◌, arith, dec_lt, Bool, cond, ◌&&◌, not}
-use Rattle.prelude.specs.Kit.{and-false, ◌≡◌, refl, ◌∙◌, sym, ap, subst, Option, List, [], ◌∷◌, ◌++◌, map, eqb, ltb, ℤ}
-use Rattle.prelude.specs.Kit.{length, get_or, get_or-eq_default, take, length-append, length-map, take_all, lt-ltb}
-use Rattle.prelude.specs.Kit.{le-ltb}
+use Rattle.std.specs.Prelude.{ℕ, ◌≤◌, ◌+◌, ◌<◌, ◌-◌, suc, zero, ◌*◌, ◌%◌, Bool, cond, ◌&&◌, not, ◌≡◌, refl, List, []}
+use Rattle.std.specs.Prelude.{◌∷◌, ◌++◌, map, eqb, ltb, ℤ, length, get_or, take}
+use Rattle.prelude.specs.Kit.{arith, dec_lt, and-false, ◌∙◌, sym, ap, subst, Option, get_or-eq_default, length-append}
+use Rattle.prelude.specs.Kit.{length-map, take_all, lt-ltb, le-ltb}
 use Rattle.semantics.specs.Basics.{tabulate}
 use Rattle.semantics.specs.Syntax.{Parameter}
 use Rattle.semantics.specs.Code.{rows}

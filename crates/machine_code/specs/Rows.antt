@@ -1,7 +1,8 @@
 -- Rows that stand in the code arrays from a position on, and what is read there.
-use Rattle.prelude.specs.Kit.{ℕ, ◌≤◌, ◌+◌, ◌<◌, suc, ◌%◌, arith, true, false, ◌&&◌, not, ◌≡◌, refl, ◌∙◌, sym, ap, subst}
-use Rattle.prelude.specs.Kit.{inl, inr, List, [], ◌∷◌, ◌++◌, ltb, T, ℤ, pos, length, get_or, take, length-append}
-use Rattle.prelude.specs.Kit.{length-take, get_or-take, ne_eqb, lt-ltb, has_key, miss}
+use Rattle.std.specs.Prelude.{ℕ, ◌≤◌, ◌+◌, ◌<◌, suc, ◌%◌, true, false, ◌&&◌, not, ◌≡◌, refl, List, [], ◌∷◌, ◌++◌, ltb}
+use Rattle.std.specs.Prelude.{T, ℤ, pos, length, get_or, take}
+use Rattle.prelude.specs.Kit.{arith, ◌∙◌, sym, ap, subst, inl, inr, length-append, length-take, get_or-take, ne_eqb}
+use Rattle.prelude.specs.Kit.{lt-ltb, has_key, miss}
 use Rattle.semantics.specs.Number.{sum, difference, less}
 use Rattle.semantics.specs.Kinds.{Leaf, operation, call, literal, index, length_of, iota, replicate, leaf_kind}
 use Rattle.semantics.specs.Kinds.{Loop, mapping, filtering, reducing, rewriting, loop_kind}

@@ -1,5 +1,6 @@
 -- A cell acquired over positions is the one that the machine acquires; and how many cells remain free after it.
-use Rattle.prelude.specs.Kit.{ℕ, ◌-◌, suc, zero, arith, true, false, Bool, cond, ◌≡◌, refl, ◌∙◌, ap, List, [], ◌∷◌, ℤ}
+use Rattle.std.specs.Prelude.{ℕ, ◌-◌, suc, zero, true, false, Bool, cond, ◌≡◌, refl, List, [], ◌∷◌, ℤ}
+use Rattle.prelude.specs.Kit.{arith, ◌∙◌, ap}
 use Rattle.semantics.specs.Basics.{occurrences}
 use Rattle.semantics.specs.Outcome.{Outcome, done, stop}
 use Rattle.semantics.specs.Store.{Store, cell, has_free, acquired, free_cells}

@@ -1,6 +1,7 @@
 -- The words of the atoms that follow a line.
-use Rattle.prelude.specs.Kit.{ℕ, ◌≤◌, ◌+◌, ◌<◌, ◌-◌, suc, zero, arith, false, ◌≡◌, refl, ◌∙◌, sym, ap, ap₂, List, []}
-use Rattle.prelude.specs.Kit.{◌∷◌, map, ℤ, length, get_or, length-map, le-ltb}
+use Rattle.std.specs.Prelude.{ℕ, ◌≤◌, ◌+◌, ◌<◌, ◌-◌, suc, zero, false, ◌≡◌, refl, List, [], ◌∷◌, map, ℤ, length}
+use Rattle.std.specs.Prelude.{get_or}
+use Rattle.prelude.specs.Kit.{arith, ◌∙◌, sym, ap, ap₂, length-map, le-ltb}
 use Rattle.semantics.specs.Code as K
 use Rattle.semantics.specs.Code.{atom_row}
 use Rattle.semantics.specs.Live.{Set}

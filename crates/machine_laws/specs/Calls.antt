@@ -1,7 +1,8 @@
 -- Calls: the machine over positions, with some call depth left, is the machine of the definitions.
-use Rattle.prelude.specs.Kit.{ℕ, ◌≤◌, ◌+◌, ◌<◌, suc, zero, ◌*◌, ◌%◌, arith, ℕ_discrete, true, false, Bool, cond, ◌≡◌}
-use Rattle.prelude.specs.Kit.{refl, ◌∙◌, sym, ap, List, [], ◌∷◌, eqb, ℤ, pos, length, get_or, set, length-set}
-use Rattle.prelude.specs.Kit.{get_or-set_other, get_or-set_same, ne_eqb, eq-eqb}
+use Rattle.std.specs.Prelude.{ℕ, ◌≤◌, ◌+◌, ◌<◌, suc, zero, ◌*◌, ◌%◌, true, false, Bool, cond, ◌≡◌, refl, List, []}
+use Rattle.std.specs.Prelude.{◌∷◌, eqb, ℤ, pos, length, get_or, set}
+use Rattle.prelude.specs.Kit.{arith, ℕ_discrete, ◌∙◌, sym, ap, length-set, get_or-set_other, get_or-set_same, ne_eqb}
+use Rattle.prelude.specs.Kit.{eq-eqb}
 use Rattle.semantics.specs.Basics.{updated}
 use Rattle.semantics.specs.Outcome.{stop}
 use Rattle.semantics.specs.Code.{rows}

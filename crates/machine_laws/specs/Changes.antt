@@ -1,5 +1,6 @@
 -- Retains and releases as they stand in the code.
-use Rattle.prelude.specs.Kit.{ℕ, ◌+◌, ◌-◌, ◌%◌, arith, true, ◌≡◌, refl, ◌∙◌, ap, List, ℤ}
+use Rattle.std.specs.Prelude.{ℕ, ◌+◌, ◌-◌, ◌%◌, true, ◌≡◌, refl, List, ℤ}
+use Rattle.prelude.specs.Kit.{arith, ◌∙◌, ap}
 use Rattle.semantics.specs.Outcome.{done, onward}
 use Rattle.semantics.specs.Store.{cell_of, retained}
 use Rattle.semantics.specs.Kinds.{Borrowing}

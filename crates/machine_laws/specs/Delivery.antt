@@ -1,7 +1,7 @@
 -- The delivery over positions is the delivery of the definitions.
-use Rattle.prelude.specs.Kit.{ℕ, ◌≤◌, ◌+◌, ◌<◌, ◌-◌, suc, zero, arith, true, false, Bool, cond, ◌≡◌, refl, ◌∙◌, sym}
-use Rattle.prelude.specs.Kit.{subst, List, [], ◌∷◌, ℤ, pos, length, set, length-set, replicate, length-replicate}
-use Rattle.prelude.specs.Kit.{ne_eqb, eq-eqb}
+use Rattle.std.specs.Prelude.{ℕ, ◌≤◌, ◌+◌, ◌<◌, ◌-◌, suc, zero, true, false, Bool, cond, ◌≡◌, refl, List, [], ◌∷◌, ℤ}
+use Rattle.std.specs.Prelude.{pos, length, set, replicate}
+use Rattle.prelude.specs.Kit.{arith, ◌∙◌, sym, subst, length-set, length-replicate, ne_eqb, eq-eqb}
 use Rattle.semantics.specs.Outcome.{Outcome, done, stop, Run, onward}
 use Rattle.semantics.specs.Code.{rows}
 use Rattle.semantics.specs.Live.{just}

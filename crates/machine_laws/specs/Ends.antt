@@ -1,7 +1,8 @@
 -- The positions after trees, as one pass over the rows from the last to the first finds them, are those of the trees.
-use Rattle.prelude.specs.Kit.{ℕ, ◌≤◌, ◌+◌, ◌<◌, suc, zero, ◌*◌, ◌%◌, ◌/◌, arith, true, false, Bool, ◌≡◌, refl, ◌∙◌, sym}
-use Rattle.prelude.specs.Kit.{ap, subst, inl, inr, List, [], ◌∷◌, ◌++◌, map, ltb, ℤ, length, get_or, set, length-set}
-use Rattle.prelude.specs.Kit.{length-append, get_or-set_other, get_or-set_same, ne_eqb, ltb-true, ltb-false, OneOf, miss}
+use Rattle.std.specs.Prelude.{ℕ, ◌≤◌, ◌+◌, ◌<◌, suc, zero, ◌*◌, ◌%◌, ◌/◌, true, false, Bool, ◌≡◌, refl, List, [], ◌∷◌}
+use Rattle.std.specs.Prelude.{◌++◌, map, ltb, ℤ, length, get_or, set}
+use Rattle.prelude.specs.Kit.{arith, ◌∙◌, sym, ap, subst, inl, inr, length-set, length-append, get_or-set_other}
+use Rattle.prelude.specs.Kit.{get_or-set_same, ne_eqb, ltb-true, ltb-false, OneOf, miss}
 use Rattle.semantics.specs.Kinds.{Leaf, Loop, mapping, filtering, reducing, rewriting, leaf_kind, loop_kind}
 use Rattle.semantics.specs.Kinds.{packed_names}
 use Rattle.semantics.specs.Code as C

@@ -1,7 +1,8 @@
 -- Frames that agree with a list of words, and what work in the frame of a call leaves alone.
-use Rattle.prelude.specs.Kit.{ℕ, ◌≤◌, ◌+◌, ◌<◌, ◌*◌, ◌%◌, arith, ℕ_discrete, true, false, Bool, cond, or-false}
-use Rattle.prelude.specs.Kit.{or_assoc, ◌≡◌, refl, ◌∙◌, sym, ap, subst, inl, inr, ◌≢◌, List, [], ◌∷◌, eqb, ℤ, pos}
-use Rattle.prelude.specs.Kit.{length, get_or, set, length-set, get_or-set_other, get_or-set_same, ne_eqb, eq-eqb, eqb-true}
+use Rattle.std.specs.Prelude.{ℕ, ◌≤◌, ◌+◌, ◌<◌, ◌*◌, ◌%◌, true, false, Bool, cond, ◌≡◌, refl, ◌≢◌, List, [], ◌∷◌, eqb}
+use Rattle.std.specs.Prelude.{ℤ, pos, length, get_or, set}
+use Rattle.prelude.specs.Kit.{arith, ℕ_discrete, or-false, or_assoc, ◌∙◌, sym, ap, subst, inl, inr, length-set}
+use Rattle.prelude.specs.Kit.{get_or-set_other, get_or-set_same, ne_eqb, eq-eqb, eqb-true}
 use Rattle.semantics.specs.Basics.{updated}
 use Rattle.semantics.specs.Kinds.{later_parts}
 use Rattle.semantics.specs.Code as C

@@ -1,6 +1,6 @@
 -- Functions in the code: the rows of each behind those of the one before it, and what is read of a function's rows.
-use Rattle.prelude.specs.Kit.{ℕ, ◌≤◌, ◌+◌, ◌<◌, suc, zero, ◌*◌, ◌%◌, arith, ◌≡◌, ◌∙◌, ap, subst, List, [], ◌∷◌, ◌++◌, ℤ}
-use Rattle.prelude.specs.Kit.{length, get_or}
+use Rattle.std.specs.Prelude.{ℕ, ◌≤◌, ◌+◌, ◌<◌, suc, zero, ◌*◌, ◌%◌, ◌≡◌, List, [], ◌∷◌, ◌++◌, ℤ, length, get_or}
+use Rattle.prelude.specs.Kit.{arith, ◌∙◌, ap, subst}
 use Rattle.semantics.specs.Code.{Tree, Row, row, rows}
 use Rattle.machine_code.specs.Reading.{low_bits, name_at}
 use Rattle.machine_code.specs.Rows.{At, at_first, at_second, NamesAt}

@@ -1,7 +1,7 @@
 -- The lines that work no tree, as they stand in the code: one law for each kind of leaf.
-use Rattle.prelude.specs.Kit.{ℕ, ◌≤◌, ◌+◌, ◌<◌, ◌-◌, suc, zero, ◌*◌, ◌%◌, ◌/◌, arith, true, false, Bool, cond, ◌≡◌}
-use Rattle.prelude.specs.Kit.{refl, ◌∙◌, sym, ap, subst, ap₂, some, List, [], ◌∷◌, ◌++◌, map, ℤ, pos, nat_abs, length}
-use Rattle.prelude.specs.Kit.{get_or, length-map, leb-false}
+use Rattle.std.specs.Prelude.{ℕ, ◌≤◌, ◌+◌, ◌<◌, ◌-◌, suc, zero, ◌*◌, ◌%◌, ◌/◌, true, false, Bool, cond, ◌≡◌, refl}
+use Rattle.std.specs.Prelude.{List, [], ◌∷◌, ◌++◌, map, ℤ, pos, nat_abs, length, get_or}
+use Rattle.prelude.specs.Kit.{arith, ◌∙◌, sym, ap, subst, ap₂, some, length-map, leb-false}
 use Rattle.std.proofs.Math.ListN as List
 use Rattle.semantics.specs.Basics.{updated, tabulate}
 use Rattle.semantics.specs.Outcome.{Outcome, done, stop, onward, ◌>>=◌, ◌>>◌, give, require}

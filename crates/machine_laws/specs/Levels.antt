@@ -1,7 +1,8 @@
 -- The levels among the frames are those of a log, while no more cells are free than a store has.
-use Rattle.prelude.specs.Kit.{ℕ, ◌≤◌, ◌+◌, ◌<◌, ◌-◌, ◌*◌, ◌%◌, min, arith, true, false, Bool, cond, ◌≡◌, refl, ◌∙◌, sym}
-use Rattle.prelude.specs.Kit.{ap, subst, ap₂, List, [], ◌∷◌, ◌++◌, append-nil, ltb, ℤ, pos, length, get_or, set}
-use Rattle.prelude.specs.Kit.{length-set, get_or-set_other, get_or-set_same, ltb-true, ltb-false}
+use Rattle.std.specs.Prelude.{ℕ, ◌≤◌, ◌+◌, ◌<◌, ◌-◌, ◌*◌, ◌%◌, min, true, false, Bool, cond, ◌≡◌, refl, List, [], ◌∷◌}
+use Rattle.std.specs.Prelude.{◌++◌, ltb, ℤ, pos, length, get_or, set}
+use Rattle.prelude.specs.Kit.{arith, ◌∙◌, sym, ap, subst, ap₂, append-nil, length-set, get_or-set_other}
+use Rattle.prelude.specs.Kit.{get_or-set_same, ltb-true, ltb-false}
 use Rattle.semantics.specs.Store.{Store, released, deepest, cells_taken}
 use Rattle.semantics.specs.Live.{Set}
 use Rattle.semantics.specs.Machine.{Event, acquires, touching, release_events, level_after, lowest_over}

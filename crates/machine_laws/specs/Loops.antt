@@ -1,6 +1,7 @@
 -- The passes of a loop over positions are those of the machine, by what a pass carries.
-use Rattle.prelude.specs.Kit.{ℕ, ◌≤◌, ◌+◌, ◌<◌, ◌-◌, suc, zero, ◌*◌, ◌%◌, ◌/◌, pred, arith, sub-one, ◌≡◌, refl, ◌∙◌}
-use Rattle.prelude.specs.Kit.{sym, ap, subst, ap₂, List, [], ◌∷◌, ◌++◌, map, ℤ, pos, length, get_or}
+use Rattle.std.specs.Prelude.{ℕ, ◌≤◌, ◌+◌, ◌<◌, ◌-◌, suc, zero, ◌*◌, ◌%◌, ◌/◌, pred, ◌≡◌, refl, List, [], ◌∷◌, ◌++◌}
+use Rattle.std.specs.Prelude.{map, ℤ, pos, length, get_or}
+use Rattle.prelude.specs.Kit.{arith, sub-one, ◌∙◌, sym, ap, subst, ap₂}
 use Rattle.semantics.specs.Basics.{tabulate, updated}
 use Rattle.semantics.specs.Outcome.{Outcome, stop, onward, ◌>>◌, give, passes}
 use Rattle.semantics.specs.Kinds.{Loop, mapping, filtering, reducing, rewriting, loop_kind, packed_names}

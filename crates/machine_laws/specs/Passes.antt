@@ -1,8 +1,8 @@
 -- What a loop and its passes begin with and carry on over positions is what they do in the machine: a clause for each
 -- kind of loop.
-use Rattle.prelude.specs.Kit.{ℕ, ◌<◌, ◌-◌, suc, zero, arith, true, false, Bool, cond, not, ◌||◌, ◌≡◌, refl, ◌∙◌, sym}
-use Rattle.prelude.specs.Kit.{ap, subst, ap₂, List, [], ◌∷◌, ◌++◌, eqb, ℤ, pos, get_or, length-set, get_or-set_same, ne_eqb}
-use Rattle.prelude.specs.Kit.{eq-eqb}
+use Rattle.std.specs.Prelude.{ℕ, ◌<◌, ◌-◌, suc, zero, true, false, Bool, cond, not, ◌||◌, ◌≡◌, refl, List, [], ◌∷◌}
+use Rattle.std.specs.Prelude.{◌++◌, eqb, ℤ, pos, get_or}
+use Rattle.prelude.specs.Kit.{arith, ◌∙◌, sym, ap, subst, ap₂, length-set, get_or-set_same, ne_eqb, eq-eqb}
 use Rattle.semantics.specs.Basics.{updated}
 use Rattle.semantics.specs.Outcome.{onward, ◌>>=◌, ◌>>◌, give, require}
 use Rattle.semantics.specs.Number.{is_zero, is_answer}

@@ -1,7 +1,7 @@
 -- How work over positions agrees with a run of the machine: it goes on with what P says, or it stops with the same
 -- number and the same steps left.
-use Rattle.prelude.specs.Kit.{ℕ, ◌≤◌, ◌+◌, ◌<◌, suc, zero, ◌*◌, arith, true, ◌≡◌, refl, ◌∙◌, sym, ap, subst, ap₂, List}
-use Rattle.prelude.specs.Kit.{ℤ, pos, length, get_or, set, ne_eqb, eq-eqb}
+use Rattle.std.specs.Prelude.{ℕ, ◌≤◌, ◌+◌, ◌<◌, suc, zero, ◌*◌, true, ◌≡◌, refl, List, ℤ, pos, length, get_or, set}
+use Rattle.prelude.specs.Kit.{arith, ◌∙◌, sym, ap, subst, ap₂, ne_eqb, eq-eqb}
 use Rattle.semantics.specs.Basics.{updated}
 use Rattle.semantics.specs.Outcome.{Outcome, done, stop, Run, onward}
 use Rattle.semantics.specs.Live.{Set, ◌∪◌, only}

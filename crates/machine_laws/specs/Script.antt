@@ -1,7 +1,7 @@
 -- The delivery over positions, on the code of an accepted script, is the delivery of the definitions.
-use Rattle.prelude.specs.Kit.{ℕ, ◌≤◌, ◌+◌, ◌<◌, suc, zero, ◌*◌, ◌%◌, arith, true, ◌≡◌, refl, ◌∙◌, sym, ap, subst, List}
-use Rattle.prelude.specs.Kit.{[], ◌∷◌, ◌++◌, map, append_assoc, ℤ, pos, length, get_or, take, length-append, length-map}
-use Rattle.prelude.specs.Kit.{get_or-append_seam}
+use Rattle.std.specs.Prelude.{ℕ, ◌≤◌, ◌+◌, ◌<◌, suc, zero, ◌*◌, ◌%◌, true, ◌≡◌, refl, List, [], ◌∷◌, ◌++◌, map, ℤ}
+use Rattle.std.specs.Prelude.{pos, length, get_or, take}
+use Rattle.prelude.specs.Kit.{arith, ◌∙◌, sym, ap, subst, append_assoc, length-append, length-map, get_or-append_seam}
 use Rattle.discipline.proofs.machine.Size.{function_within}
 use Rattle.soundness.proofs.Delivering.{levels_bounded}
 use Rattle.semantics.specs.Syntax.{Parameter, Function, Script, function_at, no_function, main_depth}

@@ -1,6 +1,7 @@
 -- The table's positions, from the places of a script's functions, are those of the functions' lines.
-use Rattle.prelude.specs.Kit.{ℕ, ◌≤◌, ◌+◌, ◌<◌, ◌-◌, suc, zero, ◌*◌, arith, true, false, Bool, cond, ◌≡◌, refl, ◌∙◌, ap}
-use Rattle.prelude.specs.Kit.{ap₂, List, [], ◌∷◌, ltb, length, get_or, length-append}
+use Rattle.std.specs.Prelude.{ℕ, ◌≤◌, ◌+◌, ◌<◌, ◌-◌, suc, zero, ◌*◌, true, false, Bool, cond, ◌≡◌, refl, List, []}
+use Rattle.std.specs.Prelude.{◌∷◌, ltb, length, get_or}
+use Rattle.prelude.specs.Kit.{arith, ◌∙◌, ap, ap₂, length-append}
 use Rattle.semantics.specs.Code.{Row}
 use Rattle.machine_code.specs.Reading.{starts_place, start_in, end_in}
 use Rattle.machine_table.specs.Positions.{with_start, position_of, starts_from}

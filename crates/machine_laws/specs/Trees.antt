@@ -1,6 +1,7 @@
 -- The machine over positions is the machine of the definitions: lines and trees.
-use Rattle.prelude.specs.Kit.{ℕ, ◌≤◌, ◌+◌, ◌<◌, ◌-◌, suc, zero, ◌%◌, arith, true, false, Bool, cond, ◌≡◌, refl, ◌∙◌}
-use Rattle.prelude.specs.Kit.{sym, ap, subst, ap₂, List, ◌++◌, map, ℤ, length, get_or, length-append, length-map}
+use Rattle.std.specs.Prelude.{ℕ, ◌≤◌, ◌+◌, ◌<◌, ◌-◌, suc, zero, ◌%◌, true, false, Bool, cond, ◌≡◌, refl, List, ◌++◌}
+use Rattle.std.specs.Prelude.{map, ℤ, length, get_or}
+use Rattle.prelude.specs.Kit.{arith, ◌∙◌, sym, ap, subst, ap₂, length-append, length-map}
 use Rattle.semantics.specs.Basics.{updated}
 use Rattle.semantics.specs.Outcome.{onward, give, require}
 use Rattle.semantics.specs.Number.{is_zero, is_answer}

@@ -1,5 +1,6 @@
 -- Verdicts that accept: no refusal does, and what passes 1 to 9 passes 1 to 8.
-use Rattle.prelude.specs.Kit.{ℕ, arith, true, false, Bool, cond, ◌≡◌, List}
+use Rattle.std.specs.Prelude.{ℕ, true, false, Bool, cond, ◌≡◌, List}
+use Rattle.prelude.specs.Kit.{arith}
 use Rattle.semantics.specs.Syntax.{Script}
 use Rattle.semantics.specs.Calls.{Verdict, accepted, refused, judged, admitted, admitted_if}
 use Rattle.semantics.specs.Calls.{code_fits}

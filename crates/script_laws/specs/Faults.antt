@@ -1,6 +1,7 @@
 -- The nodes that break rules 6, 7 and 8 are nodes of the script; those of 6 and of 7 are listed in rising order.
-use Rattle.prelude.specs.Kit.{ℕ, ◌≤◌, ◌+◌, ◌<◌, suc, zero, arith, true, false, Bool, cond, not, ◌≡◌, refl, inl, inr}
-use Rattle.prelude.specs.Kit.{◌⊎◌, some, none, List, [], ◌∷◌, ◌++◌, ltb, length, eq-eqb}
+use Rattle.std.specs.Prelude.{ℕ, ◌≤◌, ◌+◌, ◌<◌, suc, zero, true, false, Bool, cond, not, ◌≡◌, refl, ◌⊎◌, List, []}
+use Rattle.std.specs.Prelude.{◌∷◌, ◌++◌, ltb, length}
+use Rattle.prelude.specs.Kit.{arith, inl, inr, some, none, eq-eqb}
 use Rattle.semantics.specs.Basics.{with_if, occurrences, ◌∈◌, updated}
 use Rattle.semantics.specs.Kinds.{Loop}
 use Rattle.semantics.specs.Syntax as S

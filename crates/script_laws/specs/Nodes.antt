@@ -1,6 +1,7 @@
 -- The first of the nodes that break 6, or 7, is the lowest. A refusal of a file has a number from 1 to 8 and gives a
 -- node up to 1,024: so both fit their places in the answer.
-use Rattle.prelude.specs.Kit.{ℕ, ◌≤◌, ◌<◌, arith, ◌≡◌, refl, some, none, Option, List, [], ◌∷◌, eq-eqb}
+use Rattle.std.specs.Prelude.{ℕ, ◌≤◌, ◌<◌, ◌≡◌, refl, List, [], ◌∷◌}
+use Rattle.prelude.specs.Kit.{arith, some, none, Option, eq-eqb}
 use Rattle.semantics.specs.Basics.{least, occurrences, ◌∈◌}
 use Rattle.semantics.specs.Outcome.{Outcome, done, stop}
 use Rattle.semantics.specs.Syntax.{Script}

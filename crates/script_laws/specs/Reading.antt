@@ -1,7 +1,8 @@
 -- The reader never goes past the node after the last: so a refusal, which has a number from 1 to 5, gives a node up to
 -- 1,024, and a script has at most so many nodes.
-use Rattle.prelude.specs.Kit.{ℕ, ◌≤◌, ◌+◌, ◌<◌, suc, zero, arith, true, false, Bool, cond, ◌≡◌, refl, List, [], ◌∷◌}
-use Rattle.prelude.specs.Kit.{eqb, ltb, length, drop, length-take}
+use Rattle.std.specs.Prelude.{ℕ, ◌≤◌, ◌+◌, ◌<◌, suc, zero, true, false, Bool, cond, ◌≡◌, refl, List, [], ◌∷◌, eqb}
+use Rattle.std.specs.Prelude.{ltb, length, drop}
+use Rattle.prelude.specs.Kit.{arith, length-take}
 use Rattle.semantics.specs.Outcome.{Outcome, done, stop, onward, ◌>>=◌, ◌>>◌, give, halt, times}
 use Rattle.semantics.specs.Number.{bytes_at}
 use Rattle.semantics.specs.Syntax.{Expr, name, let_in, if_else, Script}

@@ -5,48 +5,48 @@ use Rattle.flatten_functions.proofs.Functions.{known, Results, results_none, res
 use Rattle.flatten_functions.proofs.results_of.Statement.{statement}
 use Rattle.flatten_functions.proofs.results_of.Tie as tie
 
-abbrev invariant_loop : tie.invariant_loop
+abbrev invariant_loop : tie.invariant-loop-i
 invariant_loop kinds operands starts functions results₀ i₀ results i =
     (t : Translatable kinds operands functions starts) × (i ≤ functions) × Results t.tree i results
 
-abbrev decreases_loop : tie.decreases_loop
+abbrev decreases_loop : tie.decreases-loop-i
 decreases_loop kinds operands starts functions results₀ i₀ results i = functions - i
 
-loop_holds : tie.Need-loop-init invariant_loop decreases_loop
-loop_holds c = (c.before.before.requires, omega arith, results_none _)
+loop_holds : tie.Need-loop-i-init invariant_loop decreases_loop
+loop_holds c = (c.requires, omega arith, results_none _)
 
-element_copy_out_high_at : tie.Need-element-copy-out-high-at invariant_loop decreases_loop
-element_copy_out_high_at c = omega (arith, c.before.loop.invariant.0.few, c.loop-test.true)
+element_copy_out_high_at : tie.Need-bounds-starts-i invariant_loop decreases_loop
+element_copy_out_high_at c = omega (arith, c.loop-i.invariant.0.few, c.loop-i-test.true)
 
-array_write_results : tie.Need-array-write-results invariant_loop decreases_loop
+array_write_results : tie.Need-bounds-results-i invariant_loop decreases_loop
 array_write_results c = omega (
   arith,
-  c.before.before.before.loop.invariant.0.few,
-  c.before.before.loop-test.true,
+  c.loop-i.invariant.0.few,
+  c.loop-i-test.true,
 )
 
-mul_high_at : tie.Need-overflow-mul-high-at invariant_loop decreases_loop
-mul_high_at c = omega (arith, c.before.loop.invariant.0.few, c.loop-test.true)
+mul_high_at : tie.Need-offset_bounds-starts-i invariant_loop decreases_loop
+mul_high_at c = omega (arith, c.loop-i.invariant.0.few, c.loop-i-test.true)
 
-add_i : tie.Need-overflow-add-i invariant_loop decreases_loop
-add_i c = omega (arith, c.before.before.before.loop.invariant.0.few, c.before.before.loop-test.true)
+add_i : tie.Need-overflow_add-i invariant_loop decreases_loop
+add_i c = omega (arith, c.loop-i.invariant.0.few, c.loop-i-test.true)
 
-loop_less : tie.Need-loop-smaller invariant_loop decreases_loop
-loop_less c = omega (arith, c.before.before.loop-test.true)
+loop_less : tie.Need-loop-i-smaller invariant_loop decreases_loop
+loop_less c = omega (arith, c.loop-i-test.true)
 
-loop_again : tie.Need-loop-preserved invariant_loop decreases_loop
+loop_again : tie.Need-loop-i-preserved invariant_loop decreases_loop
 loop_again c =
-    let v = c.before.before.before.loop.invariant in (
+    let v = c.loop-i.invariant in (
       v.0,
-      omega (arith, c.before.before.loop-test.true),
-      results_more v.2 c.high_at.result (omega (arith, v.0.few, c.before.before.loop-test.true))
-          (c.high_at.ensures ∙ result_there v.0 c.before.before.before.loop.i _ c.before.before.loop-test.true refl),
+      omega (arith, c.loop-i-test.true),
+      results_more v.2 c.high_at-d.result (omega (arith, v.0.few, c.loop-i-test.true))
+          (c.high_at-d.ensures ∙ result_there v.0 c.loop-i.i _ c.loop-i-test.true refl),
     )
 
 returns : tie.Need-returns invariant_loop decreases_loop
 returns c =
-    let v = c.before.loop.invariant in
-    rw v.0.reads (results_all v.2 (omega (arith, (known v.0).1.0, c.loop-test.false)))
+    let v = c.loop-i.invariant in
+    rw v.0.reads (results_all v.2 (omega (arith, (known v.0).1.0, c.loop-i-test.false)))
 
 pub results_of_spec : {M : Type 1} → statement M
 results_of_spec =

@@ -5,46 +5,31 @@ use Rattle.lent_fit.proofs.Laws.{main_count, main_first, main_second, main_resul
 use Rattle.lent_fit.proofs.is_main.Statement.{statement}
 use Rattle.lent_fit.proofs.is_main.Tie as tie
 
-returns : tie.Need-returns
+returns : tie.Need-returns-then-first_at-ne2
 returns c =
-    let start = c.before.before in
-    let a = start.args in
-    main_count a.operands.now a.d (λ e. c.if1.true (c.before.first_at.ensures ∙ e))
+    let a = c.args in
+    main_count a.operands.now a.d (λ e. c.if-first_at-ne2.true (c.first_at.ensures ∙ e))
 
-returns_2 : tie.Need-returns-2
+returns_2 : tie.Need-returns-then-second_at-d
 returns_2 c =
-    let at-if1 = c.before.before in
-    let at-first-at = at-if1.before in
-    let start = at-first-at.before in
-    let a = start.args in
-    main_first a.operands.now a.d (sym at-first-at.first_at.ensures ∙ at-if1.if1.false)
-    (λ e. c.if2.true (c.before.second_at.ensures ∙ e))
+    let a = c.args in
+    main_first a.operands.now a.d (sym c.first_at.ensures ∙ c.if-first_at-ne2.false)
+    (λ e. c.if-second_at-d.true (c.second_at.ensures ∙ e))
 
-returns_3 : tie.Need-returns-3
+returns_3 : tie.Need-returns-then-second_at-ne1
 returns_3 c =
-    let at-if2 = c.before.before in
-    let at-second-at = at-if2.before in
-    let at-if1 = at-second-at.before in
-    let at-first-at = at-if1.before in
-    let start = at-first-at.before in
-    let a = start.args in
-    main_second a.operands.now a.d (sym at-first-at.first_at.ensures ∙ at-if1.if1.false)
-    (sym at-second-at.second_at.ensures ∙ at-if2.if2.false)
-    (λ e. c.if3.true (c.before.second-at2.ensures ∙ e))
+    let a = c.args in
+    main_second a.operands.now a.d (sym c.first_at.ensures ∙ c.if-first_at-ne2.false)
+    (sym c.second_at.ensures ∙ c.if-second_at-d.false)
+    (λ e. c.if-second_at-ne1.true (c.second_at-2.ensures ∙ e))
 
-returns_4 : tie.Need-returns-4
+returns_4 : tie.Need-returns
 returns_4 c =
-    let at-second-at2 = c.before.before in
-    let at-if2 = at-second-at2.before in
-    let at-second-at = at-if2.before in
-    let at-if1 = at-second-at.before in
-    let at-first-at = at-if1.before in
-    let start = at-first-at.before in
-    let a = start.args in
-    ap (λ (r : ℕ). eqb r a.d) c.second-at3.ensures
-    ∙ main_result a.operands.now a.d (sym at-first-at.first_at.ensures ∙ at-if1.if1.false)
-    (sym at-second-at.second_at.ensures ∙ at-if2.if2.false)
-    (sym at-second-at2.second-at2.ensures ∙ c.before.if3.false)
+    let a = c.args in
+    ap (λ (r : ℕ). eqb r a.d) c.second_at-3.ensures
+    ∙ main_result a.operands.now a.d (sym c.first_at.ensures ∙ c.if-first_at-ne2.false)
+    (sym c.second_at.ensures ∙ c.if-second_at-d.false)
+    (sym c.second_at-2.ensures ∙ c.if-second_at-ne1.false)
 
 pub is_main_spec : {M : Type 1} → statement M
 is_main_spec =

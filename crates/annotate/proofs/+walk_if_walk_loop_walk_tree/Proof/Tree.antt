@@ -162,7 +162,7 @@ module _ (t : ℕ) where
         let loop = (looped line).loop-left in
         let b = begun line in
         going_more (code b) (borrowing b) (depths b) (inner b) loop.invariant.1 note.result _
-        line.loop-left-test.true note.ensures line.if-q-p.false (sym told.l-1.given.1
+        line.loop-left-test.true note.ensures line.if-q-p.false (sym told.in-If.is
         ∙ line.line_at-l.ensures)
         (if_line (code b) (borrowing b) (depths b) (inner b) note.result loop.q _ _
         (omega (arith, name_small told, loop.invariant.0))
