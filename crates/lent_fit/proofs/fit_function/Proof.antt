@@ -10,26 +10,24 @@ add_fit_parameters c =
     omega (arith, c.requires.0.2, c.requires.3)
 
 fit_parameters_requires : tie.Need-fit_parameters-requires
-fit_parameters_requires c κs =
-    (
-      omega (arith, c.requires.0.0, c.requires.3),
-      search rules,
-      omega (arith, c.requires.0.0, c.requires.0.2),
-      refl,
-      ap length c.requires.2,
-    )
+fit_parameters_requires c κs = (
+  omega (arith, c.requires.0.0, c.requires.3),
+  search rules,
+  omega (arith, c.requires.0.0, c.requires.0.2),
+  refl,
+  ap length c.requires.2,
+)
 
 fit_tree_requires : tie.Need-fit_tree-requires
-fit_tree_requires c κs =
-    (
-      record {
-        cut = c.requires.0;
-        places = c.requires.1;
-        long = c.fit_parameters.ensures.long;
-        deep = c.fit_parameters.ensures.deep;
-      },
-      c.fit_parameters.ensures.long,
-    )
+fit_tree_requires c κs = (
+  record {
+    cut = c.requires.0;
+    places = c.requires.1;
+    long = c.fit_parameters.ensures.long;
+    deep = c.fit_parameters.ensures.deep;
+  },
+  c.fit_parameters.ensures.long,
+)
 
 returns : tie.Need-returns-in-Next
 returns c =

@@ -43,12 +43,11 @@ returns_2 c =
     c.fit_function.result _ c.fit_function.ensures.0 _ c.in-Fault.is
 
 lay_requires : tie.Need-lay-requires invariant_loop decreases_loop
-lay_requires c κs =
-    (
-      omega (arith, c.loop-f-test.true, c.requires.2),
-      omega (arith, c.loop-f.invariant.kept.long, c.requires.3),
-      c.fit_function.ensures.1,
-    )
+lay_requires c κs = (
+  omega (arith, c.loop-f-test.true, c.requires.2),
+  omega (arith, c.loop-f.invariant.kept.long, c.requires.3),
+  c.fit_function.ensures.1,
+)
 
 add_f : tie.Need-overflow_add-f invariant_loop decreases_loop
 add_f c =

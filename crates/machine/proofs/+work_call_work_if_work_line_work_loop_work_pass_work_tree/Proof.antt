@@ -46,8 +46,8 @@ mod Loop
 mod Pass
 mod Tree
 
-pub +work-call-work-if-work-line-work-loop-work-pass-work-tree-spec : {M : Type 1} → statement M
-+work-call-work-if-work-line-work-loop-work-pass-work-tree-spec =
+pub +work_call_work_if_work_line_work_loop_work_pass_work_tree_spec : {M : Type 1} → statement M
++work_call_work_if_work_line_work_loop_work_pass_work_tree_spec =
     close
     μ_work_call
     μ_work_if

@@ -3,38 +3,38 @@ use Rattle.borrow_table.proofs.Reading.{atoms_other}
 use Rattle.borrow_table.proofs.scan.atoms_by.Statement.{statement}
 use Rattle.borrow_table.proofs.scan.atoms_by.Tie as tie
 
-returns : tie.Need-returns
-returns c = rw c.if1.true
+returns : tie.Need-returns-then-kind-eq-CALL
+returns c = rw c.if-kind-eq-CALL.true
 
-returns_2 : tie.Need-returns-2
-returns_2 c = rw c.if2.true
+returns_2 : tie.Need-returns-then-kind-eq-LITERAL
+returns_2 c = rw c.if-kind-eq-LITERAL.true
 
-returns_3 : tie.Need-returns-3
-returns_3 c = rw c.if3.true
+returns_3 : tie.Need-returns-then-kind-eq-LENGTH
+returns_3 c = rw c.if-kind-eq-LENGTH.true
 
-returns_4 : tie.Need-returns-4
-returns_4 c = rw c.if4.true
+returns_4 : tie.Need-returns-then-kind-eq-IF
+returns_4 c = rw c.if-kind-eq-IF.true
 
-returns_5 : tie.Need-returns-5
-returns_5 c = rw c.if5.true
+returns_5 : tie.Need-returns-then-kind-eq-MAP
+returns_5 c = rw c.if-kind-eq-MAP.true
 
-returns_6 : tie.Need-returns-6
-returns_6 c = rw c.if6.true
+returns_6 : tie.Need-returns-then-kind-eq-END
+returns_6 c = rw c.if-kind-eq-END.true
 
-returns_7 : tie.Need-returns-7
-returns_7 c = rw c.if7.true
+returns_7 : tie.Need-returns-then-kind-eq-IOTA
+returns_7 c = rw c.if-kind-eq-IOTA.true
 
-returns_8 : tie.Need-returns-8
-returns_8 c = rw c.if8.true
+returns_8 : tie.Need-returns-then-kind-eq-FILTER
+returns_8 c = rw c.if-kind-eq-FILTER.true
 
-returns_9 : tie.Need-returns-9
+returns_9 : tie.Need-returns
 returns_9 c =
-    let a = c.before.before.before.before.before.before.before.before.args in
-    atoms_other a.kind a.m c.before.before.before.before.before.before.before.if1.false
-    c.before.before.before.before.before.before.if2.false
-    c.before.before.before.before.before.if3.false
-    c.before.before.before.before.if4.false c.before.before.before.if5.false
-    c.before.before.if6.false c.before.if7.false c.if8.false
+    let a = c.args in
+    atoms_other a.kind a.m c.if-kind-eq-CALL.false
+    c.if-kind-eq-LITERAL.false
+    c.if-kind-eq-LENGTH.false
+    c.if-kind-eq-IF.false c.if-kind-eq-MAP.false
+    c.if-kind-eq-END.false c.if-kind-eq-IOTA.false c.if-kind-eq-FILTER.false
 
 pub atoms_by_spec : {M : Type 1} → statement M
 atoms_by_spec =

@@ -40,8 +40,8 @@ module _ (t : ℕ) where
     is_compound n =
         let seen = fits_seen s.requires.1.0 in
         compound_is _ _ _ _ s.requires.1.0.deep seen (compound_as seen n)
+        -- in the arms of a let, an if and all others
 
-      -- in the arms of a let, an if and all others
   abbrev let_arm : lts.After-spot_at (lay_node_claims t) (lay_node_at t) lay-node.Post →
       lts.In-7 (lay_node_claims t) (lay_node_at t) lay-node.Post
   let_arm c = c.before.before.before.before.before.before.before

@@ -24,8 +24,8 @@ module _ (t : ℕ) where
 
     high_fits : s.args.shape.high < 256
     high_fits = s.well_formed.1.1.1.1.1.1.1.1.0.1.1.1.1.0.1
+        -- the loop's row is laid and its names are bound
 
-      -- the loop's row is laid and its names are bound
   abbrev Bound : Type 0
   Bound = lts.After-bind_pass-old (lay_pass_claims t) (lay_pass_at t) lay-pass.Post
 

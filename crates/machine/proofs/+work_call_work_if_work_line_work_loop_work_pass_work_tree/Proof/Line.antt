@@ -7,58 +7,45 @@ use Rattle.machine.proofs.+work_call_work_if_work_line_work_loop_work_pass_work_
 use Rattle.machine.proofs.+work_call_work_if_work_line_work_loop_work_pass_work_tree.Proof.Common.{work_line_at}
 use Rattle.machine.proofs.+work_call_work_if_work_line_work_loop_work_pass_work_tree.Proof.Common.{work_line_claims}
 
-pub work_line_returns : (t : ℕ) → work-line-lts.Need-returns (work_line_claims t) (work_line_at t) work_line.Post
+pub work_line_returns : (t : ℕ) → work-line-lts.Need-returns-in-If (work_line_claims t) (work_line_at t) work_line.Post
 work_line_returns t c =
-    let at-work-if = c.before.before.before in
-    let at-l = at-work-if.before.before.before.before.before in
-    let start = at-l.before.before.before in
-    let a = start.args in
+    let a = c.args in
     let k = code a.kinds.now.now a.operands.now.now a.table.now in
-    let read = at-l.l in
-    let branch = at-work-if.work-if in
+    let branch = c.work_if in
     line_if (tree_on a.lines (call_on a.calls k) k a.calls) (call_on a.calls k) k a.calls
     a.at a.steps a.slots.now a.heads.now a.env.now a.l branch.result
-    branch.new.1.1.1.0 branch.new.1.1.1.1.0 branch.new.1.1.1.1.1.0 read.given.0.0
-    read.given.0.1.0 read.given.1 branch.ensures
+    branch.new.slots branch.new.heads branch.new.env c.in-If.x
+    c.in-If.g c.in-If.is branch.ensures
 
-pub work_line_returns_2 : (t : ℕ) → work-line-lts.Need-returns-2 (work_line_claims t) (work_line_at t) work_line.Post
+pub work_line_returns_2 : (t : ℕ) → work-line-lts.Need-returns-in-Call (work_line_claims t) (work_line_at t) work_line.Post
 work_line_returns_2 t c =
-    let at-work-call = c.before.before.before in
-    let at-l2 = at-work-call.before.before.before.before.before in
-    let start = at-l2.before.before.before in
-    let a = start.args in
+    let a = c.args in
     let k = code a.kinds.now.now a.operands.now.now a.table.now in
-    let called = at-work-call.work-call in
+    let called = c.work_call in
     line_call (tree_on a.lines (call_on a.calls k) k a.calls) (call_on a.calls k) k a.calls
     a.at a.steps a.slots.now a.heads.now a.env.now a.l called.result
-    called.new.1.1.1.0 called.new.1.1.1.1.0 called.new.1.1.1.1.1.0
-    at-l2.l2.given.0.0
-    at-l2.l2.given.0.1.0
-    at-l2.l2.given.1 called.ensures
+    called.new.slots called.new.heads called.new.env
+    c.in-Call.x
+    c.in-Call.g
+    c.in-Call.is called.ensures
 
-pub work_line_returns_3 : (t : ℕ) → work-line-lts.Need-returns-3 (work_line_claims t) (work_line_at t) work_line.Post
+pub work_line_returns_3 : (t : ℕ) → work-line-lts.Need-returns-in-Loop (work_line_claims t) (work_line_at t) work_line.Post
 work_line_returns_3 t c =
-    let at-work-loop = c.before.before.before in
-    let at-l3 = at-work-loop.before.before.before.before.before in
-    let start = at-l3.before.before.before in
-    let a = start.args in
+    let a = c.args in
     let k = code a.kinds.now.now a.operands.now.now a.table.now in
-    let worked = at-work-loop.work-loop in
+    let worked = c.work_loop in
     line_loop (tree_on a.lines (call_on a.calls k) k a.calls) (call_on a.calls k) k a.calls
     a.at a.steps a.slots.now a.heads.now a.env.now a.l worked.result
-    worked.new.1.1.1.0 worked.new.1.1.1.1.0 worked.new.1.1.1.1.1.0
-    at-l3.l3.given.0.0
-    at-l3.l3.given.0.1.0
-    at-l3.l3.given.1 worked.ensures
+    worked.new.slots worked.new.heads worked.new.env
+    c.in-Loop.x
+    c.in-Loop.l
+    c.in-Loop.is worked.ensures
 
-pub work_line_returns_4 : (t : ℕ) → work-line-lts.Need-returns-4 (work_line_claims t) (work_line_at t) work_line.Post
+pub work_line_returns_4 : (t : ℕ) → work-line-lts.Need-returns-in_default (work_line_claims t) (work_line_at t) work_line.Post
 work_line_returns_4 t c =
-    let at-work-leaf = c.before.before.before in
-    let at-match = at-work-leaf.before.before.before.before.before.before.before in
-    let start = at-match.before.before in
-    let a = start.args in
+    let a = c.args in
     let k = code a.kinds.now.now a.operands.now.now a.table.now in
-    let leaf = at-work-leaf.work_leaf in
+    let leaf = c.work_leaf in
     line_leaf (tree_on a.lines (call_on a.calls k) k a.calls) (call_on a.calls k) k a.calls
-    a.at a.steps a.slots.now a.heads.now a.env.now a.l leaf.result leaf.new.1.1.1.0
-    leaf.new.1.1.1.1.0 leaf.new.1.1.1.1.1.0 at-match.match.keys4 leaf.ensures
+    a.at a.steps a.slots.now a.heads.now a.env.now a.l leaf.result leaf.new.slots
+    leaf.new.heads leaf.new.env c.in_default.in_default-own.keys4 leaf.ensures
