@@ -6,10 +6,10 @@ use Rattle.translate_script.proofs.Parameters.{head_wrote}
 use Rattle.translate_script.proofs.put_head.Statement.{statement}
 use Rattle.translate_script.proofs.put_head.Tie as tie
 
-put_parameters_requires : tie.Need-put-parameters-requires
+put_parameters_requires : tie.Need-put_parameters-v-requires
 put_parameters_requires c κs =
-    let at_pre = c.before.before.before.before.before.before.before.requires in
-    let a = c.before.before.before.before.before.before.before.args in (
+    let at_pre = c.requires in
+    let a = c.args in (
       at_pre.0,
       (
         omega (
@@ -19,7 +19,7 @@ put_parameters_requires c κs =
         (
           omega (
             arith,
-            c.before.before.before.low_at.ensures,
+            c.low_at-count.ensures,
             count_most a.kinds.now a.operands.now a.at,
           ),
           at_pre.1.1,
@@ -27,16 +27,16 @@ put_parameters_requires c κs =
       ),
     )
 
-mul_put_row : tie.Need-overflow-mul-put-row
+mul_put_row : tie.Need-overflow_mul-result
 mul_put_row c =
-    let at-high-at = c.before.before.before.before.before.before.before.before.high_at in
-    let a = c.before.before.before.before.before.before.before.before.before.before.before.before.before.args in omega (arith, at-high-at.ensures, result_most a.kinds.now a.operands.now a.at)
+    let at-high-at = c.high_at-result in
+    let a = c.args in omega (arith, at-high-at.ensures, result_most a.kinds.now a.operands.now a.at)
 
-add_put_row : tie.Need-overflow-add-put-row
+add_put_row : tie.Need-overflow_add-count
 add_put_row c =
-    let at-high-at = c.before.before.before.before.before.before.before.before.high_at in
-    let at-low-at = c.before.before.before.before.before.before.before.before.before.low_at in
-    let a = c.before.before.before.before.before.before.before.before.before.before.before.before.before.args in omega (
+    let at-high-at = c.high_at-result in
+    let at-low-at = c.low_at-count in
+    let a = c.args in omega (
       arith,
       at-low-at.ensures,
       at-high-at.ensures,
@@ -44,18 +44,18 @@ add_put_row c =
       result_most a.kinds.now a.operands.now a.at,
     )
 
-put_row_requires : tie.Need-put-row-requires
+put_row_requires : tie.Need-put_row-requires
 put_row_requires c κs =
-    let at_pre = c.before.before.before.before.before.before.before.before.before.before.before.before.before.requires in
-    lower c.before.before.before.before.before.put-parameters.ensures at_pre.1.1
+    let at_pre = c.requires in
+    lower c.put_parameters-v.ensures at_pre.1.1
 
 returns : tie.Need-returns
 returns c =
-    let at-put-parameters = c.before.before.before.before.before.before.before.before.before.put-parameters in
-    let at-high-at = c.before.before.before.before.before.before.before.before.before.before.before.before.high_at in
-    let at-low-at = c.before.before.before.before.before.before.before.before.before.before.before.before.before.low_at in
-    let a = c.before.before.before.before.before.before.before.before.before.before.before.before.before.before.before.before.before.args in head_wrote a.kinds.now a.operands.now a.at
-    at-low-at.result at-high-at.result at-low-at.ensures at-high-at.ensures at-put-parameters.ensures c.before.before.before.put-row.ensures
+    let at-put-parameters = c.put_parameters-v in
+    let at-high-at = c.high_at-result in
+    let at-low-at = c.low_at-count in
+    let a = c.args in head_wrote a.kinds.now a.operands.now a.at
+    at-low-at.result at-high-at.result at-low-at.ensures at-high-at.ensures at-put-parameters.ensures c.put_row.ensures
 
 pub put_head_spec : {M : Type 1} → statement M
 put_head_spec =

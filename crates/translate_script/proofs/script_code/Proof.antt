@@ -13,7 +13,7 @@ use Rattle.translate_script.proofs.Functions.{depths_there, code_begins, code_go
 use Rattle.translate_script.proofs.script_code.Statement.{statement}
 use Rattle.translate_script.proofs.script_code.Tie as tie
 
-abbrev invariant_loop : tie.invariant_loop
+abbrev invariant_loop : tie.invariant-loop-i
 invariant_loop kinds operands starts₀ functions table₀ ks₀ os₀ w results rows₀ notes₀ borrowing v₀ i₀ starts table ks os rows
     notes v i =
     (t : Translatable kinds operands functions starts₀) × Resulting t.tree results × (i ≤ functions)
@@ -21,25 +21,25 @@ invariant_loop kinds operands starts₀ functions table₀ ks₀ os₀ w results
     × DepthsFrom i t.tree table₀ table × (length rows ≡ 2048) × (length notes ≡ 2048)
     × (borrowing ≡ borrowed t.tree) × PlacesFrom i t.tree w starts₀ starts
 
-abbrev decreases_loop : tie.decreases_loop
+abbrev decreases_loop : tie.decreases-loop-i
 decreases_loop kinds operands starts₀ functions table₀ ks₀ os₀ w results rows₀ notes₀ borrowing v₀ i₀ starts table ks os rows
     notes v i = i
 
-results_of_requires : tie.Need-results-of-requires invariant_loop decreases_loop
-results_of_requires c κs = c.before.before.before.before.before.requires.0
+results_of_requires : tie.Need-results_of-results-requires invariant_loop decreases_loop
+results_of_requires c κs = c.requires.0
 
-borrow_table_requires : tie.Need-borrow-table-requires invariant_loop decreases_loop
+borrow_table_requires : tie.Need-borrow_table-borrowing-requires invariant_loop decreases_loop
 borrow_table_requires c κs = (
-  c.before.before.before.before.before.before.before.before.before.before.requires.0,
-  (c.before.before.before.before.results-of.ensures, (refl, refl)),
+  c.requires.0,
+  (c.results_of-results.ensures, (refl, refl)),
 )
 
-loop_holds : tie.Need-loop-init invariant_loop decreases_loop
+loop_holds : tie.Need-loop-i-init invariant_loop decreases_loop
 loop_holds c =
-    let at_pre = c.before.before.before.before.before.before.before.before.before.before.before.requires in
+    let at_pre = c.requires in
     let t = at_pre.0 in
-    let resulting = rw t.reads at c.before.before.before.before.before.results-of.ensures in
-    let made = rw t.reads at c.borrow-table.ensures in (
+    let resulting = rw t.reads at c.results_of-results.ensures in
+    let made = rw t.reads at c.borrow_table-borrowing.ensures in (
       t,
       resulting,
       omega arith,
@@ -52,20 +52,20 @@ loop_holds c =
       places_none _ (omega (arith, (known t).1.0)),
     )
 
-mul_at : tie.Need-overflow-mul-at invariant_loop decreases_loop
+mul_at : tie.Need-offset_bounds-starts-i invariant_loop decreases_loop
 mul_at c =
-    let at-loop = c.before.loop in
+    let at-loop = c.loop-i in
     omega (arith, at-loop.invariant.2, at-loop.invariant.0.few)
 
-element_copy_out_at : tie.Need-element-copy-out-at invariant_loop decreases_loop
+element_copy_out_at : tie.Need-bounds-starts-i invariant_loop decreases_loop
 element_copy_out_at c =
-    let at-loop = c.before.loop in
-    omega (arith, at-loop.invariant.2, at-loop.invariant.0.few, c.loop-test.true)
+    let at-loop = c.loop-i in
+    omega (arith, at-loop.invariant.2, at-loop.invariant.0.few, c.loop-i-test.true)
 
-function_code_requires : tie.Need-function-code-requires invariant_loop decreases_loop
+function_code_requires : tie.Need-function_code-u-requires invariant_loop decreases_loop
 function_code_requires c κs =
-    let turn = c.before.before.before.before.before.before.before.before.loop-test.true in
-    let at-loop = c.before.before.before.before.before.before.before.before.before.loop in
+    let turn = c.loop-i-test.true in
+    let at-loop = c.loop-i in
     let v = at-loop.invariant in (
       (
         fits_at v.0 v.1 (at-loop.i - 1) _ (omega (arith, v.2, turn)) (v.9.before _ (omega (arith, turn))),
@@ -74,27 +74,25 @@ function_code_requires c κs =
       (v.6, (v.7, refl)),
     )
 
-mul_starts : tie.Need-overflow-mul-starts invariant_loop decreases_loop
+mul_starts : tie.Need-offset_bounds-starts-i-in-loop-i invariant_loop decreases_loop
 mul_starts c =
-    let at_test = c.before.before.before.before.before.before.before.before.before.before.before.before in
-    let v = at_test.before.loop.invariant in omega (arith, v.2, v.0.few)
+    let v = c.loop-i.invariant in omega (arith, v.2, v.0.few)
 
-element_write_starts : tie.Need-element-write-starts invariant_loop decreases_loop
+element_write_starts : tie.Need-bounds-starts-i-in-loop-i invariant_loop decreases_loop
 element_write_starts c =
-    let at_test = c.before.before.before.before.before.before.before.before.before.before.before.before in
-    let v = at_test.before.loop.invariant in omega (arith, v.2, v.0.few, at_test.loop-test.true)
+    let v = c.loop-i.invariant in omega (arith, v.2, v.0.few, c.loop-i-test.true)
 
-note_depths_requires : tie.Need-note-depths-requires invariant_loop decreases_loop
+note_depths_requires : tie.Need-note_depths-requires invariant_loop decreases_loop
 note_depths_requires c κs =
-    let turn = c.before.before.before.before.before.before.before.before.before.before.before.before.before.before.loop-test.true in
-    let v = c.before.before.before.before.before.before.before.before.before.before.before.before.before.before.before.loop.invariant in omega (arith, v.0.few, v.2, turn)
+    let turn = c.loop-i-test.true in
+    let v = c.loop-i.invariant in omega (arith, v.0.few, v.2, turn)
 
-loop_again : tie.Need-loop-preserved invariant_loop decreases_loop
+loop_again : tie.Need-loop-i-preserved invariant_loop decreases_loop
 loop_again c =
-    let coded = c.before.before.before.before.before.before.before.before.function-code.ensures in
-    let turn = c.before.before.before.before.before.before.before.before.before.before.before.before.before.before.before.before.before.loop-test.true in
-    let at-loop = c.before.before.before.before.before.before.before.before.before.before.before.before.before.before.before.before.before.before.loop in
-    let v = at-loop.inv in
+    let coded = c.function_code-u.ensures in
+    let turn = c.loop-i-test.true in
+    let at-loop = c.loop-i in
+    let v = at-loop.invariant in
     let next : at-loop.i ≡ at-loop.i - 1 + 1 = omega arith in
     let stood = v.9.before (at-loop.i - 1) (omega (arith, turn)) in
     let written = code_goes v.0 v.1 _ at-loop.i _ v.8 turn v.2 stood v.4 coded.0 in (
@@ -104,7 +102,7 @@ loop_again c =
       lower coded.0 v.3,
       written,
       depths_one v.5 next (omega (arith, (known v.0).1.0, v.2)) (coded.1.0 ∙ depths_there v.0 v.1
-          at-loop.i _ turn v.2 stood) c.before.before.note-depths.ensures,
+          at-loop.i _ turn v.2 stood) c.note_depths.ensures,
       coded.1.1.0,
       coded.1.1.1,
       v.8,
@@ -112,20 +110,20 @@ loop_again c =
           (omega (arith, (known v.0).1.0, v.2)) written.at,
     )
 
-same_length : tie.Need-same-length invariant_loop decreases_loop
-same_length c = c.before.loop.invariant.5.long
+same_length : tie.Need-shape_of-table invariant_loop decreases_loop
+same_length c = c.loop-i.invariant.5.long
 
-same_length_2 : tie.Need-same-length-2 invariant_loop decreases_loop
-same_length_2 c = c.before.loop.invariant.4.long_kinds
+same_length_2 : tie.Need-shape_of-ks invariant_loop decreases_loop
+same_length_2 c = c.loop-i.invariant.4.long_kinds
 
-same_length_3 : tie.Need-same-length-3 invariant_loop decreases_loop
-same_length_3 c = c.before.loop.invariant.4.long_operands
+same_length_3 : tie.Need-shape_of-os invariant_loop decreases_loop
+same_length_3 c = c.loop-i.invariant.4.long_operands
 
 returns : tie.Need-returns invariant_loop decreases_loop
 returns c =
-    let at-loop = c.before.loop in
-    let v = at-loop.invariant in let first : at-loop.i ≡ 0 = omega (arith, c.loop-test.false) in rw v.0.reads (
-      code_ends v.0.tree at-loop.i c.loop-test.false v.4,
+    let at-loop = c.loop-i in
+    let v = at-loop.invariant in let first : at-loop.i ≡ 0 = omega (arith, c.loop-i-test.false) in rw v.0.reads (
+      code_ends v.0.tree at-loop.i c.loop-i-test.false v.4,
       (rw first at v.5, rw first at v.9),
     )
 

@@ -23,7 +23,7 @@ work_loop_returns t c =
 
 -- where the passes of the loop are known
 abbrev Began : ℕ → Type 0
-Began t = work-loop-lts.In-Ready-2 (work_loop_claims t) (work_loop_at t) work-loop.Post
+Began t = work-loop-lts.In-Ready (work_loop_claims t) (work_loop_at t) work-loop.Post
 
 readied : (t : ℕ) (c : Began t) →
     let a = c.args in

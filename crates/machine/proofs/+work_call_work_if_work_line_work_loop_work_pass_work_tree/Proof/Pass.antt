@@ -58,8 +58,8 @@ passing : (t : ℕ) (c : Turn t) →
     let o = c.loop-i in
     Passing (looped a.l.way (tree_on a.lines (call_on a.calls k) k a.calls a.at) a.calls
     a.l.first a.l.second a.l.from) a.l.count a.steps a.l.carried a.slots.now a.heads.now
-    a.env.now (to_z w64 o.v) o.s o.i o.slots o.heads o.env
-    × Stays a.l.way a.l.carried (to_z w64 o.v)
+    a.env.now (to_z w64 o.v-bits) o.s o.i o.slots o.heads o.env
+    × Stays a.l.way a.l.carried (to_z w64 o.v-bits)
 passing t c =
     rw (to_z-of_z {z = c.args.l.carried} (carried_fits t c.before)) at c.loop-i.invariant
 
@@ -90,7 +90,7 @@ entered_long : (t : ℕ) (c : Entered t) → length c.begin_pass.new.env ≡ fra
 entered_long t c =
     let at-loop = c.before.before.before.before in let a = at-loop.args in
     ap length c.begin_pass.ensures
-    ∙ entered_keeps a.calls a.l.first a.l.second (to_z w64 at-loop.loop-i.v) _ at-loop.loop-i.env
+    ∙ entered_keeps a.calls a.l.first a.l.second (to_z w64 at-loop.loop-i.v-bits) _ at-loop.loop-i.env
     ∙ (passing t at-loop).0.sized.env_long ∙ at-loop.requires.1.1
 
 pub work_pass_work_tree_requires : (t : ℕ) → work-pass-lts.Need-work_tree-r-requires (work_pass_claims t)
@@ -126,7 +126,9 @@ worked_long t c =
 pub work_pass_end_pass_requires : (t : ℕ) → work-pass-lts.Need-end_pass-next-requires (work_pass_claims t)
     (work_pass_at t) work_pass.Post work_pass_Inv_loop work_pass_μ_loop
 work_pass_end_pass_requires t c κs =
-    let at-work-tree = c.before.before.before.before.before.before.before.before in let at-loop = at-work-tree.before.before.before.before.before.before.before in let a = at-loop.args in
+    let at-work-tree = c.before.before.before.before.before.before.before in
+    let at-loop = at-work-tree.before.before.before.before.before.before.before.before in
+    let a = at-loop.args in
     let tree = at-work-tree.work_tree-r in
     let sized = (passing t at-loop).0.sized in (
       at-loop.requires.1.0,
@@ -146,7 +148,7 @@ abbrev CarriedOn : (t : ℕ) → PassEnded t → Next → Type 0
 CarriedOn t c =
     let a = c.args in
     let tree = c.work_tree-r in
-    CarriesOn a.l.way (cell_of a.l.carried) (to_z w64 c.loop-i.v) c.loop-i.i
+    CarriesOn a.l.way (cell_of a.l.carried) (to_z w64 c.loop-i.v-bits) c.loop-i.i
     (get_or tree.new.env (place a.calls a.l.first) (pos 0)) tree.result.value
     (store_of tree.new.slots tree.new.heads)
     (store_of c.end_pass-next.new.slots c.end_pass-next.new.heads)
@@ -199,15 +201,18 @@ work_pass_loop_less t c =
 pub work_pass_loop_again : (t : ℕ) → work-pass-lts.Need-loop-i-preserved (work_pass_claims t) (work_pass_at t)
     work_pass.Post work_pass_Inv_loop work_pass_μ_loop
 work_pass_loop_again t c =
-    let at-end-pass = c.before.before.before.before in let at-work-tree = at-end-pass.before.before.before.before.before.before.before.before in let at-loop = at-work-tree.before.before.before.before.before.before.before in let a = at-loop.args in
+    let at-end-pass = c.before.before.before.before in
+    let at-work-tree = at-end-pass.before.before.before.before.before.before.before.before in
+    let at-loop = at-work-tree.before.before.before.before.before.before.before.before in
+    let a = at-loop.args in
     let o = at-loop.loop-i in
-    let v = to_z w64 o.v in
+    let v = to_z w64 o.v-bits in
     let begin = at-work-tree.begin_pass in
     let tree = at-work-tree.work_tree-r in
     let ended = at-end-pass.end_pass-next in
     let says = taken (subst (CarriedOn t at-end-pass) c.in-Word.is (carried_on t at-end-pass)) in
     rw (
-      to_z-of_z {z = a.l.carried} (carried_fits t at-loop),
+      to_z-of_z {z = a.l.carried} (carried_fits t at-loop.before),
       to_z-of_z {z = c.in-Word.u} (record { sfits = c.in-Word.known_told-1-own.given.0.1 }),
     ) (
       pass_goes (passing t at-loop).0 at-work-tree.loop-i-test.true at-work-tree.if-s-eq0.false begin.new.env
