@@ -1,6 +1,6 @@
 -- The statements leave an engine no choice: a log has one least level, what a delivery answers and leaves is fixed by
--- what it agrees with, and a machine that runs dry while a cell is free, or ends with an unsound store, does not do
--- what is meant. The last two are tried where a wrong engine would tell something else.
+-- what it agrees with, and a machine that runs dry while a cell is free does not do what is meant. The last two are
+-- tried where a wrong engine would tell something else.
 use Rattle.prelude.specs.Kit.{ℕ, ◌≤◌, arith, true, false, Bool, cond, ◌≡◌, refl, ◌∙◌, sym, ap, some, Option}
 use Rattle.prelude.specs.Kit.{List, [], ◌∷◌, pos, length, replicate}
 use Rattle.std.proofs.Math.Option as O

@@ -1,4 +1,4 @@
--- One delivery: from a store that the ledger agrees with, to the next.
+-- One delivery, from a store that the ledger agrees with to the next: refused, finished or stopped.
 use Rattle.prelude.specs.Kit.{ℕ, ◌<◌, ◌-◌, ◌^◌, arith, true, ◌≡◌, refl, subst, List, leb, ℤ, length, leb-true}
 use Rattle.semantics.specs.Outcome.{Outcome, done, stop}
 use Rattle.semantics.specs.Syntax.{Script, main_depth}

@@ -1,5 +1,5 @@
--- A function that the checks accept is disciplined and frugal, in every style: with the array parameters lent that it
--- borrows, from one hold for each other to none.
+-- What the checks establish of a function: its tree is well formed; with the array parameters lent that it borrows, it
+-- is given one hold for each other.
 use Rattle.prelude.specs.Kit.{ℕ, ◌≤◌, ◌+◌, ◌<◌, suc, zero, min, arith, dec_lt, true, false, Bool, cond, ◌&&◌, not}
 use Rattle.prelude.specs.Kit.{false≢true, and-false, ◌≡◌, refl, ◌∙◌, sym, ap, inl, inr, List, [], map, ltb}
 use Rattle.prelude.specs.Kit.{length, get_or, get_or-eq_default, length-map, lt-ltb, ltb-true}
@@ -171,7 +171,7 @@ module _ (fs : Script) (g : Function) (ok : Accepted fs g) where
   arrays_given at = sym (ap (λ (k : ℕ). D.holds_of Γ (picked at 0 (names_from 0 k))) (sym many)
       ∙ same_arrays Γ at depths 0 depths_given)
 
-  -- ---- the annotated tree is disciplined: g has number f and spends none of the parameters that it borrows
+  -- ---- the annotated tree: g has number f and spends none of the parameters that it borrows
 
   module _ (style : Style) (f : ℕ)
       (kept : (i : ℕ) → borrows (borrowed fs) f i ≡ true →

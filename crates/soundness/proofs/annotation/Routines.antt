@@ -1,4 +1,5 @@
--- The routine of a function that the checks accept is disciplined and frugal, in every style.
+-- A function that the checks accept is disciplined and frugal, in every style: with the array parameters lent that it
+-- borrows, from one hold for each other to none.
 use Rattle.prelude.specs.Kit.{ℕ, ◌≤◌, arith, dec_lt, true, false, Bool, ◌&&◌, not}
 use Rattle.prelude.specs.Kit.{false≢true, ◌≡◌, refl, ◌∙◌, sym, ap, subst, List, [], map, ltb}
 use Rattle.prelude.specs.Kit.{length, get_or-eq_default}
@@ -34,6 +35,7 @@ use Rattle.soundness.proofs.annotation.Functions.{none_lent, functions_in, Accep
 use Rattle.soundness.proofs.annotation.Functions.{given_same, depths_given, many, arrays_given, owned, under}
 use Rattle.soundness.proofs.annotation.Functions.{few_owned, spares, lends, given_held}
 
+-- over an accepted function
 module _ (fs : Script) (g : Function) (ok : Accepted fs g) where
   abbrev F : Functions
   F = functions_in fs
