@@ -1,15 +1,14 @@
 -- `script-twins`: the program of an accepted script in which every map stays a map, and its program in the full style,
 -- are twins.
-use Rattle.prelude.specs.Kit.{ℕ, ◌≤◌, ◌+◌, ◌<◌, suc, zero, arith, ℕ_discrete, true, false, Bool, ◌&&◌, not, ◌||◌}
-use Rattle.prelude.specs.Kit.{and-false, ◌≡◌, refl, ◌∙◌, sym, ap, subst, inl, inr, ◌≢◌, List, [], ◌∷◌, eqb, ltb, length}
-use Rattle.prelude.specs.Kit.{ne_eqb, eq-eqb}
+use Rattle.prelude.specs.Kit.{ℕ, ◌≤◌, ◌<◌, suc, arith, false, Bool, ◌&&◌, ◌||◌}
+use Rattle.prelude.specs.Kit.{and-false, ◌≡◌, refl, ◌∙◌, sym, ap, subst, inl, inr, ◌≢◌, List, [], ◌∷◌, ltb, length}
 use Rattle.semantics.specs.Basics.{with_if}
 use Rattle.semantics.specs.Syntax.{Function, Script, function_at}
 use Rattle.semantics.specs.Kinds.{Borrowing, Loop, mapping, filtering, reducing, rewriting, leaf_hands, leaf_reads}
 use Rattle.semantics.specs.Kinds.{loop_hands, loop_reads, element_name, is_pending}
 use Rattle.semantics.specs.Code.{Atom, number, name, Line, leaf, if_else, loop, retain, release, Tree, end, line}
 use Rattle.semantics.specs.Code.{ending, retain_all, release_all}
-use Rattle.semantics.specs.Live.{Set, empty, ◌∪◌, ◌∖∖◌, only, just, among, members_from, members, live, uses}
+use Rattle.semantics.specs.Live.{Set, empty, ◌∪◌, ◌∖∖◌, only, just, among, live, uses}
 use Rattle.semantics.specs.Live.{after_branch, after_pass}
 use Rattle.semantics.specs.Annotate.{NameDepths, atom_depth, is_array, arrays, dying, handed_again, full_style}
 use Rattle.semantics.specs.Annotate.{written, annotate, annotate_line, depths_of, owned_depths, annotated_in}
@@ -18,9 +17,8 @@ use Rattle.semantics.specs.Borrow.{Table, borrows, borrowed}
 use Rattle.semantics.specs.Machine.{Routine, program_in, program, routine_of}
 use Rattle.semantics.specs.Calls.{accepted, judged}
 use Rattle.semantics.specs.Demands.{mapping_only}
-use Rattle.laws.specs.Lists.{occurs_first}
 use Rattle.laws.specs.Routines.{routine_in, length_routines_in, length_routines, routine_in_is, routine_is}
-use Rattle.discipline.proofs.machine.Discipline.{less, without, AllKnown}
+use Rattle.discipline.proofs.machine.Discipline.{AllKnown}
 use Rattle.soundness.proofs.annotation.Typed.{Functions}
 use Rattle.soundness.proofs.annotation.Formed.{Within, within_up, within_bound, within_pass, bound_by}
 use Rattle.soundness.proofs.annotation.Formed.{Placed, Formed, LineFormed}
@@ -28,70 +26,9 @@ use Rattle.soundness.proofs.annotation.Unchanged.{pass, written_loop}
 use Rattle.soundness.proofs.annotation.Written.{written_as}
 use Rattle.soundness.proofs.annotation.Functions.{functions_in, Accepted, given_within, formed}
 use Rattle.soundness.proofs.annotation.Accepting.{all_accepted}
-use Rattle.leaner.proofs.Twin.{Twin, same_end, same_leaf, same_if, same_loop, same_retain}
-use Rattle.leaner.proofs.Twin.{same_release, spared, rewritten, TwinRoutine, TwinPrograms}
-
--- ---- retains and releases
-
-twin_retains : {X : List ℕ} {t t' : Tree} (xs : List ℕ) → Twin X t t' → Twin X (retain_all xs t) (retain_all xs t')
-twin_retains [] h = h
-twin_retains (x ∷ xs) h = same_retain (twin_retains xs h)
-
-twin_releases : {X : List ℕ} {t t' : Tree} (xs : List ℕ) → Twin X t t' → Twin X (release_all xs t) (release_all xs t')
-twin_releases [] h = h
-twin_releases (x ∷ xs) h = same_release (twin_releases xs h)
-
--- one name less to release
-less_one : (y : ℕ) → less (y ∷ []) (y ∷ []) ≡ []
-unfolding less without
-less_one y = rw (eq-eqb y y refl) refl
-
--- two sets that differ in y alone, which the first has
-module _ (y : ℕ) (D D' : Set) (alike : (n : ℕ) → n ≢ y → D n ≡ D' n) (has : D y ≡ true) (lacks : D' y ≡ false)
-    {t t' : Tree} (twin : Twin [] t t') where
-  later_same : (k i : ℕ) → y < i → members_from k i D ≡ members_from k i D'
-  unfolding members_from
-  later_same zero i h = refl
-  later_same (suc k) i h = λ j. with_if (alike i (λ e. omega (arith, e, h)) j) i (later_same k (suc i) (omega arith) j)
-
-  members_spared : (k i : ℕ) → i ≤ y → y < i + k →
-      Twin (y ∷ []) (release_all (members_from k i D) t) (release_all (members_from k i D') t')
-  unfolding members_from
-  members_spared zero i h g = absurd (omega arith)
-  members_spared (suc k) i h g = elim (ℕ_discrete i y) [
-    | yes e ↦
-        subst (λ (l : List ℕ). Twin (y ∷ []) (release_all l t) (release_all (with_if (D' i) i later') t'))
-        (sym (here e))
-        (subst (λ (l : List ℕ). Twin (y ∷ []) (release_all (y ∷ later) t) (release_all l t')) (sym (there e)) (found e))
-    | no f ↦
-        subst (λ (b : Bool). Twin (y ∷ []) (release_all (with_if b i later) t)
-        (release_all (with_if (D' i) i later') t')) (sym (alike i f))
-        (either (D' i) (members_spared k (suc i) (omega (arith, h, f)) (omega arith)))
-  ]
-    where
-      later : List ℕ
-      later = members_from k (suc i) D
-
-      later' : List ℕ
-      later' = members_from k (suc i) D'
-
-      here : i ≡ y → with_if (D i) i later ≡ y ∷ later
-      here e = ap (λ (b : Bool). with_if b i later) (ap D e ∙ has) ∙ ap (λ (n : ℕ). n ∷ later) e
-
-      there : i ≡ y → with_if (D' i) i later' ≡ later'
-      there e = ap (λ (b : Bool). with_if b i later') (ap D' e ∙ lacks)
-
-      found : i ≡ y → Twin (y ∷ []) (release_all (y ∷ later) t) (release_all later' t')
-      found e =
-          spared (occurs_first y [])
-          (subst (λ (X : List ℕ). Twin X (release_all later t) (release_all later' t')) (sym (less_one y))
-          (subst (λ (l : List ℕ). Twin [] (release_all l t) (release_all later' t'))
-          (sym (later_same k (suc i) (omega (arith, e)))) (twin_releases later' twin)))
-
-      either : (b : Bool) → Twin (y ∷ []) (release_all later t) (release_all later' t') →
-          Twin (y ∷ []) (release_all (with_if b i later) t) (release_all (with_if b i later') t')
-      either true r = same_release r
-      either false r = r
+use Rattle.leaner.proofs.Twin.{Twin, same_end, same_leaf, same_if, same_loop}
+use Rattle.leaner.proofs.Twin.{rewritten, TwinRoutine, TwinPrograms}
+use Rattle.leaner.proofs.Releasing.{twin_retains, twin_releases, released_twin}
 
 -- ---- the trees
 
@@ -137,17 +74,6 @@ module _ (β : Borrowing) (Γ : NameDepths) where
           (λ i. with_if (is_array Γ y && (unused i || dead i)) y [])
           ∙ ap (λ (b : Bool). with_if b y []) (and-false (is_array Γ y))
 
-      released_twin : Twin (y ∷ []) (release_all (dying Γ (among (name y ∷ []) U ∪ only x) A) k)
-          (release_all (dying Γ (among [] U ∪ only x) A) k')
-      unfolding dying members among
-      released_twin =
-          members_spared y (λ n. ((eqb y n || U n) || eqb x n) && (is_array Γ n && not (A n)))
-          (λ n. (U n || eqb x n) && (is_array Γ n && not (A n)))
-          (λ n f i. ((ne_eqb y n (λ e. f (sym e)) i || U n) || eqb x n) && (is_array Γ n && not (A n)))
-          (λ i. ((eq-eqb y y refl i || U y) || eqb x y) && (ltb 0 (array i) && not (dead i)))
-          (λ i. (unused i || ne_eqb x y other i) && (is_array Γ y && not (A y)))
-          rest 256 0 (omega arith) (omega (arith, small))
-
       rewritten_twin : Twin [] (written_loop mapping_only β Γ x mapping ps (name y ∷ []) t A k)
           (written_loop full_style β Γ x rewriting ps (name y ∷ []) t A k')
       unfolding handed_again
@@ -155,7 +81,8 @@ module _ (β : Borrowing) (Γ : NameDepths) where
           subst (λ (l : List ℕ). Twin [] (written_loop mapping_only β Γ x mapping ps (name y ∷ []) t A k)
           (retain_all l (line (loop x rewriting ps (name y ∷ []) (pass full_style β Γ x rewriting ps t A))
           (release_all (dying Γ (among [] U ∪ only x) A) k')))) (sym none_retained)
-          (rewritten (pass_twin mapping) released_twin)
+          (rewritten (pass_twin mapping)
+          (released_twin Γ x ps t A rest y small other array dead unused))
 
   module _ (F : Functions) (Θ : NameDepths) where
     mutual

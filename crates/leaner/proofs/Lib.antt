@@ -10,6 +10,7 @@ pub mod Twin
 pub mod Runs
 pub mod Beside
 pub mod Owing
+pub mod Owed
 pub mod Claims
 pub mod Trees
 pub mod Holding
@@ -37,8 +38,11 @@ pub mod Rewritings
 pub mod Reducing
 pub mod Lines
 pub mod Calls
+pub mod Releasing
 pub mod Annotated
 pub mod Delivering
+pub mod Dry
 pub mod Rises
+pub mod RunsRise
 pub mod Order8
 pub mod SameCode

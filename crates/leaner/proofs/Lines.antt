@@ -13,7 +13,8 @@ use Rattle.leaner.proofs.Twin.{Twin, same_end, same_leaf, same_if, same_loop, sa
 use Rattle.leaner.proofs.Twin.{same_release, raised, spared, rewritten}
 use Rattle.leaner.proofs.Runs.{Race, Starts}
 use Rattle.leaner.proofs.Claims.{first_setting, leaner_setting, TreeTwins, LineTwins}
-use Rattle.leaner.proofs.Owing.{owes_leaf, owes_if, owes_loop, owes_retain, owes_release, owes_rewritten, twin_owes}
+use Rattle.leaner.proofs.Owing.{owes_leaf, owes_if, owes_loop, owes_retain, owes_release, owes_rewritten}
+use Rattle.leaner.proofs.Owed.{twin_owes}
 use Rattle.leaner.proofs.Trees.{twin_end, twin_line}
 use Rattle.leaner.proofs.Holding.{twin_retain, twin_release, twin_raised, twin_spared}
 use Rattle.leaner.proofs.Leaves.{LeafTwins, twin_leaf}

@@ -1,17 +1,15 @@
 -- What the first of two twin trees owes: the names that it still holds and the leaner has handed over.
-use Rattle.prelude.specs.Kit.{ℕ, ◌+◌, arith, ◌≡◌, sym, ap, subst, List, [], ◌∷◌, ◌++◌}
+use Rattle.prelude.specs.Kit.{ℕ, arith, ◌≡◌, sym, ap, subst, List, [], ◌∷◌, ◌++◌}
 use Rattle.semantics.specs.Basics.{occurrences, ◌∈◌}
 use Rattle.semantics.specs.Kinds.{Leaf, Loop, mapping, rewriting, leaf_hands, loop_hands}
 use Rattle.semantics.specs.Code.{Atom, name, Line, leaf, if_else, loop, retain, release, Tree, line}
 use Rattle.semantics.specs.Live.{Set}
 use Rattle.laws.specs.Lists.{◌⊆◌, occurrences_append}
 use Rattle.discipline.proofs.machine.Discipline.{◌⊑◌, less, leaf_holds, left_by, holds_after}
-use Rattle.discipline.proofs.machine.Spending.{spend_one, less_counts, less_spends}
+use Rattle.discipline.proofs.machine.Spending.{spend_one, less_counts}
 use Rattle.discipline.proofs.machine.Frames.{Setting, own, given}
 use Rattle.discipline.proofs.machine.Standing.{hold_of_array}
 use Rattle.discipline.proofs.machine.Rules.{TreeRules, LineRules, line_rules, rest_rules, then_rules}
-use Rattle.leaner.proofs.Twin.{Twin, same_end, same_leaf, same_if, same_loop, same_retain}
-use Rattle.leaner.proofs.Twin.{same_release, raised, spared, rewritten}
 use Rattle.leaner.proofs.Beside.{Owes}
 
 -- what is owed stays so once both have spent the same
@@ -126,7 +124,7 @@ module _ (C : Setting) where
   TreeOwes X t t' = (B : List ℕ) (S L : Set) (H H' P Δ : List ℕ) (d : ℕ) → TreeRules C t' B S L H' P Δ d → Owes X H H' →
       Owes [] (left t H) (left t' H')
 
-  owes_rest : (X X' : List ℕ) (l l' : Line) (t t' : Tree) → LineOwes X X' l l' → TreeOwes X' t t' →
+  pub owes_rest : (X X' : List ℕ) (l l' : Line) (t t' : Tree) → LineOwes X X' l l' → TreeOwes X' t t' →
       TreeOwes X (line l t) (line l' t')
   unfolding left_by
   owes_rest X X' l l' t t' first rest B S L H H' P Δ d rules q =
@@ -137,25 +135,3 @@ module _ (C : Setting) where
   unfolding holds_after
   owes_if x g t t' e e' then B S A H H' P Δ rules q =
       owes_more [] (own C x) (left t H) (left t' H') (then B S _ H H' [] _ _ (then_rules C rules) q)
-
-  -- twin trees leave nothing owed
-  pub twin_owes : {X : List ℕ} {t t' : Tree} → Twin X t t' → TreeOwes X t t'
-  unfolding left_by
-  twin_owes (same_end {a}) = λ B S L H H' P Δ d rules q.
-      owes_less [] (given C (a ∷ [])) H H' (less_spends (given C (a ∷ [])) H' Δ rules.holds) q
-  twin_owes (same_leaf {X} {x} {l} {us} {t} {t'} w) = owes_rest X X (leaf x l us) (leaf x l us) t t'
-      (owes_leaf X x l us) (twin_owes w)
-  twin_owes (same_if {x} {g} {a} {a'} {b} {b'} {t} {t'} u v w) =
-      owes_rest [] [] (if_else x g a b) (if_else x g a' b') t t' (owes_if x g a a' b b' (twin_owes u)) (twin_owes w)
-  twin_owes (same_loop {X} {x} {k} {ps} {us} {b} {b'} {t} {t'} v w) =
-      owes_rest X X (loop x k ps us b) (loop x k ps us b') t t' (owes_loop X x k ps us b b') (twin_owes w)
-  twin_owes (same_retain {X} {y} {t} {t'} w) = owes_rest X X (retain y) (retain y) t t' (owes_retain X y) (twin_owes w)
-  twin_owes (same_release {X} {y} {t} {t'} w) = owes_rest X X (release y) (release y) t t' (owes_release X y)
-      (twin_owes w)
-  twin_owes (raised {X} {y} {t} {t'} w) = λ B S L H H' P Δ d rules q.
-      twin_owes w B S L (y ∷ H) H' P Δ d rules (owes_raised X y H H' q)
-  twin_owes (spared {X} {y} {t} {t'} h w) = λ B S L H H' P Δ d rules q.
-      twin_owes w B S L (less (y ∷ []) H) H' P Δ d rules (owes_spared X y H H' h q)
-  twin_owes (rewritten {X} {x} {y} {ps} {b} {b'} {t} {t'} v w) =
-      owes_rest X (y ∷ X) (loop x mapping ps (name y ∷ []) b) (loop x rewriting ps (name y ∷ []) b') t t'
-      (owes_rewritten X x y ps b b') (twin_owes w)

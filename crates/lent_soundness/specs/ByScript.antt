@@ -17,6 +17,7 @@ use Rattle.semantics.specs.Demands as D
 use Rattle.semantics.specs.Demands.{value_of}
 use Rattle.soundness.proofs.Delivering.{delivers, few_lines}
 use Rattle.soundness.proofs.Step as Step
+use Rattle.soundness.proofs.Worked as Worked
 use Rattle.soundness.proofs.Step.{Standing}
 use Rattle.soundness.proofs.Demand2.{admitted_says}
 use Rattle.semantics_lent.specs.Demands.{By, by_file, Admitted, script, lent, turned_away, of_verdict, admission, Entry}
@@ -158,7 +159,7 @@ module _ (d : ℕ) (slots : List ℤ) (heads : List ℕ) (v : Value) (stood : St
                   value = subst (λ (n : ℕ). value_of before n before.totals ≡ v) (sym depth) stood.value;
                 } in
                 worked_file fs depth f (Reply true true)
-                (Step.worked_step fs slots heads v δ standing δ.kinds δ.operands f
+                (Worked.worked_step fs slots heads v δ standing δ.kinds δ.operands f
                 (delivery (program fs) δ.readings (starting δ.budget before)) (meant fs v δ) refl refl
                 (delivers file fs says.judged_so
                 (few_lines fs (room δ.kinds δ.operands) (omega arith) says.fits)

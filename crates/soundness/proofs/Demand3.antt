@@ -16,7 +16,8 @@ use Rattle.soundness.proofs.Answers.{number_packed}
 use Rattle.soundness.proofs.Settled.{opened_settles}
 use Rattle.soundness.proofs.annotation.Accepting.{main_shape_of}
 use Rattle.soundness.proofs.Delivering.{few_lines, delivers}
-use Rattle.soundness.proofs.Step.{Standing, standing_settled, settled_standing, Stepped, refused_step, worked_step}
+use Rattle.soundness.proofs.Step.{Standing, standing_settled, settled_standing, Stepped, refused_step}
+use Rattle.soundness.proofs.Worked.{worked_step}
 use Rattle.soundness.proofs.Settled.{settled_rests}
 
 -- ---- the cells of two arrays

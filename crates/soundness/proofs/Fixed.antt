@@ -1,7 +1,7 @@
 -- The statements leave an engine no choice: a log has one least level, what a delivery answers and leaves is fixed by
--- what it agrees with, and a machine that runs dry while a cell is free, or ends with an unsound store, does not do
--- what is meant. The last two are tried where a wrong engine would tell something else.
-use Rattle.prelude.specs.Kit.{ℕ, ◌≤◌, arith, true, false, Bool, cond, false≢true, ◌≡◌, refl, ◌∙◌, sym, ap, some, Option}
+-- what it agrees with, and a machine that runs dry while a cell is free does not do what is meant. The last two are
+-- tried where a wrong engine would tell something else.
+use Rattle.prelude.specs.Kit.{ℕ, ◌≤◌, arith, true, false, Bool, cond, ◌≡◌, refl, ◌∙◌, sym, ap, some, Option}
 use Rattle.prelude.specs.Kit.{List, [], ◌∷◌, pos, length, replicate}
 use Rattle.std.proofs.Math.Option as O
 use Rattle.semantics.specs.Outcome.{Outcome, done, stop}
@@ -152,14 +152,9 @@ spoiled (done u s) =
     done u (with_store s (with_cell s.store c (deeper (cell s.store c))) [])
 spoiled (stop n s) = stop n s
 
-abbrev spoiling : Outcome State (Unit {0})
+abbrev pub spoiling : Outcome State (Unit {0})
 spoiling = spoiled (delivery (program printed_script) (pos 250 ∷ []) (starting 1000 (opened 2 1)))
 
-left_unsound : sound 1 (state_of spoiling).store ≡ false
+pub left_unsound : sound 1 (state_of spoiling).store ≡ false
 unfolding computing printed_script
 left_unsound = refl
-
--- A machine that spoils the store as it ends does not do what is meant, though the totals have the value.
-pub never_spoils : Does 1 1000 spoiling (main_meaning printed_script (list []) (numbers (pos 250 ∷ [])) 1000) → ⊥
-unfolding computing printed_script
-never_spoils h = false≢true (sym left_unsound ∙ h.1.is_sound)

@@ -1,24 +1,22 @@
--- One delivery: from a store that the ledger agrees with, to the next.
-use Rattle.prelude.specs.Kit.{ℕ, ◌<◌, ◌-◌, ◌^◌, arith, true, ◌≡◌, refl, sym, subst, List, leb, ℤ, length, leb-true}
+-- One delivery, from a store that the ledger agrees with to the next: refused, finished or stopped.
+use Rattle.prelude.specs.Kit.{ℕ, ◌<◌, ◌-◌, ◌^◌, arith, true, ◌≡◌, refl, subst, List, leb, ℤ, length, leb-true}
 use Rattle.semantics.specs.Outcome.{Outcome, done, stop}
 use Rattle.semantics.specs.Syntax.{Script, main_depth}
 use Rattle.semantics.specs.Value.{Value}
-use Rattle.semantics.specs.Meaning.{Meter}
 use Rattle.semantics.specs.Store.{Store, cells_taken, relinked}
 use Rattle.semantics.specs.Words.{store_of, slot_words, head_words}
 use Rattle.semantics.specs.Sound.{sound_words}
 use Rattle.semantics.specs.Machine.{State, program, delivery, starting, delivered_by, lowest_level}
 use Rattle.semantics.specs.Calls.{number_of, steps_of, StoreReply, request_fits, refusing, answering, deliver_in}
 use Rattle.semantics.specs.Ledger as L
-use Rattle.semantics.specs.Ledger.{Delivery, Entry, worked, meant, entry_by, dry_steps, wants_cell, value_after}
+use Rattle.semantics.specs.Ledger.{Delivery, Entry, worked, meant, wants_cell, value_after}
 use Rattle.semantics.specs.Demands.{value_of, Agrees, OutOfCells}
 use Rattle.laws.specs.Tests.{both_hold}
-use Rattle.soundness.proofs.Answers.{number_packed, steps_packed, not_dry, dry_packed}
+use Rattle.soundness.proofs.Answers.{number_packed, steps_packed}
 use Rattle.soundness.proofs.Settled.{Settled, sound_settles, settled_sound, settled_words, settled_rests}
 use Rattle.soundness.proofs.Settled.{relinked_settles, relinked_alone}
 use Rattle.discipline.proofs.machine.Agreement.{Start, Clean}
-use Rattle.discipline.proofs.machine.Delivery.{Delivers, finishes, stops, runs_dry}
-use Rattle.soundness.proofs.Delivering.{start_of, run_least, few_free, finished_settled}
+use Rattle.soundness.proofs.Delivering.{start_of, run_least, few_free}
 
 -- the store in two arrays is sound, and its totals have the ledger's value
 pub record Standing (fs : Script) (slots : List ℤ) (heads : List ℕ) (v : Value) : Type 0 where
@@ -78,14 +76,14 @@ module _ (fs : Script) (slots : List ℤ) (heads : List ℕ) (v : Value) (δ : D
     abbrev replied : Outcome State (Unit {0}) → StoreReply
     replied o = deliver_in kinds operands slots heads fs (delivered_by δ.budget before o)
 
-    few_steps : request_fits δ.readings δ.budget ≡ true → (k : ℕ) → δ.budget - k < 2 ^ 24
+    pub few_steps : request_fits δ.readings δ.budget ≡ true → (k : ℕ) → δ.budget - k < 2 ^ 24
     unfolding request_fits
     few_steps requested k =
         let e = (both_hold (leb (length δ.readings) 16) (leb δ.budget 1000000) requested).1 in
         omega (arith, leb-true δ.budget 1000000 e)
 
     -- a result replaces the totals
-    finished_step : request_fits δ.readings δ.budget ≡ true → (u : Unit {0}) (s : State) (w : Value) →
+    pub finished_step : request_fits δ.readings δ.budget ≡ true → (u : Unit {0}) (s : State) (w : Value) →
         run ≡ done u s → Clean start s → Settled (main_depth fs) s.store w →
         Stepped (replied (done u s)) (worked 0 (δ.budget - s.left) w)
     unfolding answering
@@ -115,7 +113,7 @@ module _ (fs : Script) (slots : List ℤ) (heads : List ℕ) (v : Value) (δ : D
         }
 
     -- a stop leaves them
-    stopped_step : request_fits δ.readings δ.budget ≡ true → (n : ℕ) (s : State) → 0 < n → n < 256 →
+    pub stopped_step : request_fits δ.readings δ.budget ≡ true → (n : ℕ) (s : State) → 0 < n → n < 256 →
         run ≡ stop n s → Clean start s →
         (n ≡ 25 → wants_cell (δ.budget - s.left) (meant fs v δ) ≡ true) → (n ≡ 25 → OutOfCells s) →
         Stepped (replied (stop n s)) (worked n (δ.budget - s.left) v)
@@ -145,24 +143,3 @@ module _ (fs : Script) (slots : List ℤ) (heads : List ℕ) (v : Value) (δ : D
           steps = steps_packed n (lowest_level before s) (δ.budget - s.left) (cells_taken (relinked before)) small
               (few_free (standing_settled stood) s) (few_steps requested s.left);
         }
-
-    -- the reply, with the entry that the ledger makes of it
-    pub worked_step : request_fits δ.readings δ.budget ≡ true → (o : Outcome State (Unit {0})) →
-        (p : Outcome Meter Value) → run ≡ o → meant fs v δ ≡ p → Delivers start (main_depth fs) o p →
-        Stepped (replied o) (entry_by fs v δ (dry_steps (replied o).answer))
-    unfolding answering
-    worked_step requested o p e m (finishes {u} {s} {v = w} q) =
-        let none = not_dry 0 (lowest_level before s) (δ.budget - s.left) (cells_taken s.store) (omega arith)
-        (λ z. absurd (omega arith)) in
-        rw (none, m, sym q.left)
-        (finished_step requested u s w e q.clean (finished_settled (standing_settled stood) q))
-    worked_step requested o p e m (stops {k} {n} {s} q) =
-        let none = not_dry k (lowest_level before s) (δ.budget - s.left) (cells_taken (relinked before))
-        q.stops.high q.stops.other in
-        rw (none, m, sym q.left, sym q.number)
-        (stopped_step requested k s (omega (arith, q.stops.low)) q.stops.high e q.clean
-        (λ z. absurd (q.stops.other z)) (λ z. absurd (q.stops.other z)))
-    worked_step requested o p e m (runs_dry {s} none_free out clean wants) =
-        rw (dry_packed (lowest_level before s) (δ.budget - s.left) (cells_taken (relinked before))
-        (few_free (standing_settled stood) s) (few_steps requested s.left))
-        (stopped_step requested 25 s (omega arith) (omega arith) e clean (λ z. rw m wants) (λ z. out.in_use refl))

@@ -7,7 +7,9 @@ pub mod Valued
 pub mod Order
 pub mod Rising
 pub mod Loading
+pub mod Filled
 pub mod Restoring
+pub mod Swaps
 pub mod Swapping
 pub mod Within
 pub mod Stories

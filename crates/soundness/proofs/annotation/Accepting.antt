@@ -23,7 +23,8 @@ use Rattle.soundness.proofs.annotation.Rules.{with_if_empty, node_parts, node_de
 use Rattle.soundness.proofs.annotation.Calling.{body_called}
 use Rattle.soundness.proofs.annotation.Checking.{check_typed}
 use Rattle.soundness.proofs.annotation.Parameters.{written, written_known, Distinct}
-use Rattle.soundness.proofs.annotation.Functions.{functions_in, Accepted, all_disciplined, all_frugal}
+use Rattle.soundness.proofs.annotation.Functions.{functions_in, Accepted}
+use Rattle.soundness.proofs.annotation.Routines.{all_disciplined, all_frugal}
 use Rattle.soundness.proofs.annotation.Reader.{After, AllOf, FunctionLimits, ScriptLimits, file_limited}
 
 -- ---- what an accepting verdict says

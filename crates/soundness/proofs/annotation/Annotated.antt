@@ -24,7 +24,8 @@ use Rattle.soundness.proofs.annotation.Unchanged.{live_annotate}
 use Rattle.soundness.proofs.annotation.Written.{written_arity}
 use Rattle.soundness.proofs.annotation.Counts.{Lower, lower_up, free_most, outside, unseen, Steady, rules, Apart}
 use Rattle.soundness.proofs.annotation.Lines.{leaf_parts, leaf_line, if_line}
-use Rattle.soundness.proofs.annotation.Trees.{loop_parts, Passing, pass_steady, loop_line}
+use Rattle.soundness.proofs.annotation.Trees.{loop_parts, Passing, pass_steady}
+use Rattle.soundness.proofs.annotation.Loops.{loop_line}
 
 -- The tree is formed over the depths Θ and annotated by Γ, which is nowhere deeper.
 module _ (style : Style) (F : Functions) (β : Borrowing) (Θ Γ : NameDepths) (under : Shallower Γ Θ) (few : Few Γ) where

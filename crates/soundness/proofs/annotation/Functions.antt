@@ -1,43 +1,36 @@
--- A function that the checks accept is disciplined and frugal, in every style: with the array parameters lent that it
--- borrows, from one hold for each other to none.
-use Rattle.prelude.specs.Kit.{ℕ, ◌≤◌, ◌+◌, ◌<◌, ◌-◌, suc, zero, min, arith, dec_lt, true, false, Bool, cond, ◌&&◌, not}
-use Rattle.prelude.specs.Kit.{false≢true, and-false, ◌≡◌, refl, ◌∙◌, sym, ap, subst, inl, inr, List, [], map, ltb}
+-- What the checks establish of a function: its tree is well formed; with the array parameters lent that it borrows, it
+-- is given one hold for each other.
+use Rattle.prelude.specs.Kit.{ℕ, ◌≤◌, ◌+◌, ◌<◌, suc, zero, min, arith, dec_lt, true, false, Bool, cond, ◌&&◌, not}
+use Rattle.prelude.specs.Kit.{false≢true, and-false, ◌≡◌, refl, ◌∙◌, sym, ap, inl, inr, List, [], map, ltb}
 use Rattle.prelude.specs.Kit.{length, get_or, get_or-eq_default, length-map, lt-ltb, ltb-true}
 use Rattle.semantics.specs.Basics.{occurrences, ◌∈◌}
-use Rattle.semantics.specs.Syntax.{Function, Script, function_at, no_function}
+use Rattle.semantics.specs.Syntax.{Function, Script}
 use Rattle.semantics.specs.Kinds.{Borrowing, picked}
-use Rattle.semantics.specs.Types.{signature, signatures_of}
 use Rattle.semantics.specs.Code.{Atom, number, name, Tree, end}
 use Rattle.semantics.specs.Normal.{Meanings, fresh, atom, normal, normal_body, parameter_names}
 use Rattle.semantics.specs.Live.{Set, empty, just, uses}
 use Rattle.semantics.specs.Borrow.{spent, Table, borrows, borrowed}
 use Rattle.semantics.specs.Annotate.{NameDepths, atom_depth, dying, Style, annotate, tree_depths}
 use Rattle.semantics.specs.Annotate.{parameter_depths_from, result_of, depths_of, owned_depths, annotated_in}
-use Rattle.semantics.specs.Machine.{Routine, no_routine, Program, program_in, program, routine_of}
+use Rattle.semantics.specs.Machine.{program_in, program}
 use Rattle.laws.specs.Tests.{both_hold, say_and}
-use Rattle.laws.specs.Routines.{routine_in, length_routines_in, length_routines, routine_in_is}
-use Rattle.soundness.proofs.borrowing.Stable.{stable}
 use Rattle.discipline.proofs.machine.Discipline as D
-use Rattle.discipline.proofs.machine.Discipline.{Known, RoutineDisciplined, RoutineFrugal, FunctionDisciplined}
-use Rattle.discipline.proofs.machine.Discipline.{FunctionFrugal}
+use Rattle.discipline.proofs.machine.Discipline.{Known}
 use Rattle.discipline.proofs.normal.Agree.{AtomBelow, below_more}
 use Rattle.discipline.proofs.normal.Parameters.{parameters_below}
 use Rattle.soundness.proofs.annotation.Typed.{Functions, Typed}
-use Rattle.soundness.proofs.annotation.Held.{Few, free, free_or, held, names, held_most, held_le, held_empty}
-use Rattle.soundness.proofs.annotation.Held.{names_held}
+use Rattle.soundness.proofs.annotation.Held.{Few, free, free_or, held, held_le, held_empty}
 use Rattle.soundness.proofs.annotation.Formed.{Shallower, Within, Formed, live_seen}
-use Rattle.soundness.proofs.annotation.Moves.{Sound, sound_same}
-use Rattle.soundness.proofs.annotation.Counts.{releasing}
-use Rattle.soundness.proofs.annotation.Scopes.{functions_of, Fits, fits_releases, dying_in, annotated_fits}
-use Rattle.soundness.proofs.annotation.Annotated.{annotated_sound}
-use Rattle.soundness.proofs.annotation.Sparing.{Spares, formed_spares, spares_releases, annotated_spares}
-use Rattle.soundness.proofs.annotation.Lending.{Without, Lends, holding_lent, frugal_lent}
+use Rattle.soundness.proofs.annotation.LoopsFit.{functions_of}
+use Rattle.soundness.proofs.annotation.Sparing.{Spares, formed_spares, spares_releases}
+use Rattle.soundness.proofs.annotation.Spared.{annotated_spares}
+use Rattle.soundness.proofs.annotation.Lending.{Without, Lends}
 use Rattle.soundness.proofs.annotation.Tables.{Off, table, lines_table, table_off}
 use Rattle.soundness.proofs.annotation.Fitted.{MeaningsFit, Fitted, atom_fitted, typed_fitted}
 use Rattle.soundness.proofs.annotation.NormalFormed.{InScope, lines_formed}
 use Rattle.soundness.proofs.annotation.Parameters.{written, Distinct, written_depth, parameter_depth}
-use Rattle.soundness.proofs.annotation.Parameters.{arrays_at, arrays_at_once, DepthsFrom, same_depths}
-use Rattle.soundness.proofs.annotation.Parameters.{same_arrays, new_from, first_known, names_from}
+use Rattle.soundness.proofs.annotation.Parameters.{arrays_at, arrays_at_once, DepthsFrom}
+use Rattle.soundness.proofs.annotation.Parameters.{same_arrays, first_known, names_from}
 
 below_known : (u : Atom) (n : ℕ) → AtomBelow u n → Known u (λ y. ltb y n)
 below_known (number z) n h = tt
@@ -51,7 +44,7 @@ held_array Γ A n e = rw e (by (Γ n))
     by zero = refl
     by (suc d) = rw (lt-ltb 0 (suc d) (omega arith)) (omega arith)
 
-none_lent : (n : ℕ) → free [] n ≡ 1
+pub none_lent : (n : ℕ) → free [] n ≡ 1
 unfolding occurrences
 none_lent n = omega (arith, free_or [] n)
 
@@ -155,30 +148,30 @@ module _ (fs : Script) (g : Function) (ok : Accepted fs g) where
       (λ R more within seen. (seen, last))
 
   -- what the body uses is given
-  uses_given : (n : ℕ) → uses (normal_body g) n ≡ true → given n ≡ true
+  pub uses_given : (n : ℕ) → uses (normal_body g) n ≡ true → given n ≡ true
   uses_given n e = elim ((live_seen F Γ (normal_body g) given empty arity g.result formed).either n e) [
     | inl q ↦ q
     | inr q ↦ absurd (false≢true q)
   ]
 
   -- they are the names 0, 1, ..
-  given_same : given ≡ just (names_from 0 arity)
+  pub given_same : given ≡ just (names_from 0 arity)
   given_same = sym (first_known arity)
 
-  depths_given : DepthsFrom Γ depths 0
+  pub depths_given : DepthsFrom Γ depths 0
   depths_given = record {
     at = λ i h. ap Γ (let z : 0 + i ≡ i = omega arith in z)
         ∙ parameters_fit i (omega (arith, h, length-map g.parameters (λ x. x.depth)));
   }
 
-  many : length depths ≡ arity
+  pub many : length depths ≡ arity
   many = length-map g.parameters (λ x. x.depth)
 
-  arrays_given : (at : ℕ → Bool) → arrays_at at depths 0 ≡ D.holds_of Γ (picked at 0 (names_from 0 arity))
+  pub arrays_given : (at : ℕ → Bool) → arrays_at at depths 0 ≡ D.holds_of Γ (picked at 0 (names_from 0 arity))
   arrays_given at = sym (ap (λ (k : ℕ). D.holds_of Γ (picked at 0 (names_from 0 k))) (sym many)
       ∙ same_arrays Γ at depths 0 depths_given)
 
-  -- ---- the annotated tree is disciplined: g has number f and spends none of the parameters that it borrows
+  -- ---- the annotated tree: g has number f and spends none of the parameters that it borrows
 
   module _ (style : Style) (f : ℕ)
       (kept : (i : ℕ) → borrows (borrowed fs) f i ≡ true →
@@ -219,7 +212,7 @@ module _ (fs : Script) (g : Function) (ok : Accepted fs g) where
       others = λ y e. ap (λ (b : Bool). cond b 0 (Γ y)) e;
     }
 
-    under : Shallower Γ' Γ
+    pub under : Shallower Γ' Γ
     under = record { most = λ y. by y (lent y) refl; same = λ y h. alike y h (lent y) refl }
       where
         by : (y : ℕ) (b : Bool) → lent y ≡ b → Γ' y ≤ Γ y
@@ -230,7 +223,7 @@ module _ (fs : Script) (g : Function) (ok : Accepted fs g) where
         alike y h true e = absurd (omega (arith, h, owned.numbers y e))
         alike y h false e = sym (owned.others y e)
 
-    few_owned : Few Γ'
+    pub few_owned : Few Γ'
     few_owned y h = omega (arith, under.most y, few_names y h)
 
     pub spares : Spares β lent body
@@ -246,7 +239,7 @@ module _ (fs : Script) (g : Function) (ok : Accepted fs g) where
         by y false q e = refl
 
     -- the arrays among the borrowed parameters are lent
-    lends : Lends lent Γ [] lent_arrays
+    pub lends : Lends lent Γ [] lent_arrays
     unfolding occurrences
     lends = record {
       more = λ y h. absurd (omega (arith, h));
@@ -270,7 +263,7 @@ module _ (fs : Script) (g : Function) (ok : Accepted fs g) where
         ]
 
     -- an array parameter that is not borrowed holds one reference
-    given_held : (y : ℕ) → occurrences y owned_arrays ≡ held Γ' given y
+    pub given_held : (y : ℕ) → occurrences y owned_arrays ≡ held Γ' given y
     given_held y =
         arrays_at_once (λ i. not (β f i)) depths 0 y y (omega arith) ∙ elim (dec_lt y arity) [
           | yes h ↦ here h (β f y) refl ∙ sym (held_array Γ' given y (lt-ltb y arity h))
@@ -292,108 +285,3 @@ module _ (fs : Script) (g : Function) (ok : Accepted fs g) where
         past : (b : Bool) → get_or depths y 0 ≡ 0 → cond b (min 1 (get_or depths y 0)) 0 ≡ 0
         past true e = omega (arith, e)
         past false e = refl
-
-    -- by the depths that it is annotated by
-    owned_sound : Sound β Γ' [] body owned_arrays [] [] empty
-    unfolding annotated_in occurrences
-    owned_sound =
-        let t = normal_body g in
-        let tree = annotated_sound style F β Γ Γ' under few_owned t [] given empty arity g.result formed given_within
-        (record { below = λ y e. absurd (false≢true e) }) (record { free_from = λ n h. none_lent n })
-        (λ n. omega (arith, none_lent n, held_most Γ' (uses t) n)) in
-        sound_same β Γ' [] body owned_arrays owned_arrays []
-        (names Γ' [] empty) [] empty (λ n. refl)
-        (λ n. omega (arith, names_held Γ' few_owned [] empty n, held_empty Γ' n))
-        (releasing β Γ' few_owned [] given (uses t) (annotate style β Γ' t empty) owned_arrays []
-        empty
-        (λ n. omega (
-          arith,
-          given_held n,
-          held_le Γ' (uses t) given n (uses_given n),
-          none_lent n,
-          held_most Γ' (uses t) n,
-        )) tree)
-
-    abbrev p : Program
-    p = program_in style fs
-
-    -- the program has the same functions in every style
-    same_functions : F ≡ functions_of p
-    unfolding program_in
-    same_functions = λ i. record {
-      number = (length_routines fs ∙ sym (length_routines_in style fs)) i;
-      signatures = signatures_of fs;
-    }
-
-    body_fits : Fits p Γ body g.result given
-    unfolding annotated_in
-    body_fits =
-        let t = normal_body g in
-        fits_releases p Γ (dying Γ' given (uses t)) (annotate style β Γ' t empty) g.result given
-        (dying_in p Γ style β Γ' under given (uses t) given (λ n e. e))
-        (annotated_fits p Γ style β Γ' under t given empty arity g.result
-        (subst (λ (G : Functions). Formed G Γ t given arity g.result) same_functions formed) given_within)
-
-    pub routine_disciplined : RoutineDisciplined p (β f) (routine_in style fs T f g) (signature g)
-    unfolding program_in
-    routine_disciplined = record {
-      parameters = ap (λ (k : ℕ). map Γ (names_from 0 k)) (sym many) ∙ same_depths Γ depths 0 depths_given;
-      new = new_from arity 0 empty (omega (arith, ok.few)) (λ y h. refl);
-      fits = body_fits.0;
-      scoped = subst (D.Scoped body) given_same body_fits.1;
-      holds = subst (λ (l : List ℕ). D.Holding β Γ l body given_owned [] []) (arrays_given (β f))
-          (subst (λ (l : List ℕ). D.Holding β Γ lent_arrays body l [] []) (arrays_given (λ i. not (β f i)))
-          (holding_lent β lent Γ Γ' owned body [] lent_arrays owned_arrays [] [] lends spares owned_sound.0));
-    }
-
-    pub routine_frugal : RoutineFrugal β (β f) (routine_in style fs T f g)
-    routine_frugal =
-        subst (λ (l : List ℕ). D.Frugal β Γ l body given_owned empty) (arrays_given (β f))
-        (subst (λ (l : List ℕ). D.Frugal β Γ lent_arrays body l empty) (arrays_given (λ i. not (β f i)))
-        (frugal_lent β lent Γ Γ' owned body [] lent_arrays owned_arrays empty lends spares owned_sound.1))
-
--- ---- the routines of a script
-
--- past the last function
-no_disciplined : (p : Program) (b : ℕ → Bool) → RoutineDisciplined p b no_routine (signature no_function)
-no_disciplined p b = record {
-  parameters = refl;
-  new = tt;
-  fits = refl;
-  scoped = tt;
-  holds = λ n. refl;
-}
-
-module _ (style : Style) (fs : Script) (ok : (f : ℕ) → Accepted fs (function_at fs f)) where
-  abbrev q : Program
-  q = program_in style fs
-
-  no_function_past : (f : ℕ) → length fs ≤ f → function_at fs f ≡ no_function
-  no_function_past f h = get_or-eq_default fs no_function {n = f} h
-
-  no_routine_past : (f : ℕ) → length fs ≤ f → routine_of q f ≡ no_routine
-  no_routine_past f h =
-      get_or-eq_default q.routines no_routine {n = f} (omega (arith, length_routines_in style fs))
-
-  pub all_disciplined : (f : ℕ) → FunctionDisciplined q f
-  unfolding program_in
-  all_disciplined f = elim (dec_lt f (length fs)) [
-    | yes h ↦
-        subst (λ (r : Routine). RoutineDisciplined q (q.borrowing f) r (signature (function_at fs f)))
-        (sym (routine_in_is style fs f h))
-        (routine_disciplined fs (function_at fs f) (ok f) style f ((stable fs).kept f))
-    | no h ↦
-        subst (λ (r : Routine). RoutineDisciplined q (q.borrowing f) r (signature (function_at fs f)))
-        (sym (no_routine_past f (omega arith)))
-        (subst (λ (g : Function). RoutineDisciplined q (q.borrowing f) no_routine (signature g))
-        (sym (no_function_past f (omega arith))) (no_disciplined q (q.borrowing f)))
-  ]
-
-  pub all_frugal : (f : ℕ) → FunctionFrugal q f
-  unfolding program_in
-  all_frugal f = elim (dec_lt f (length fs)) [
-    | yes h ↦
-        subst (RoutineFrugal q.borrowing (q.borrowing f)) (sym (routine_in_is style fs f h))
-        (routine_frugal fs (function_at fs f) (ok f) style f ((stable fs).kept f))
-    | no h ↦ subst (RoutineFrugal q.borrowing (q.borrowing f)) (sym (no_routine_past f (omega arith))) tt
-  ]

@@ -1,22 +1,19 @@
 -- `annotated-fits`: annotation gives trees whose depths fit and whose names are known.
 use Rattle.prelude.specs.Kit.{ℕ, ◌≤◌, ◌<◌, suc, arith, true, false, Bool, ◌&&◌, not, false≢true, ◌≡◌, refl, ◌∙◌, sym}
-use Rattle.prelude.specs.Kit.{ap, subst, inl, inr, some, List, [], ◌∷◌, leb, length, eq-eqb, ltb-true}
+use Rattle.prelude.specs.Kit.{ap, subst, inl, inr, List, [], ◌∷◌, eq-eqb, ltb-true}
 use Rattle.semantics.specs.Basics.{with_if, occurrences, ◌∈◌}
 use Rattle.semantics.specs.Kinds.{Leaf, operation, call, literal, index, length_of, iota, replicate, leaf_hands}
 use Rattle.semantics.specs.Kinds.{leaf_reads, Loop, mapping, filtering, reducing, rewriting, loop_hands, loop_reads}
 use Rattle.semantics.specs.Kinds.{element_name, is_pending, Borrowing, picked}
-use Rattle.semantics.specs.Types.{loop_rule}
-use Rattle.semantics.specs.Code.{Atom, name, Line, leaf, if_else, loop, retain, release, Tree, end, line, ending}
+use Rattle.semantics.specs.Code.{Atom, Line, leaf, if_else, loop, retain, release, Tree, end, line, ending}
 use Rattle.semantics.specs.Code.{retain_all, release_all}
-use Rattle.semantics.specs.Live.{Set, empty, ◌∪◌, ◌∖◌, ◌∖∖◌, only, just, among, live, uses, after_branch, after_pass}
+use Rattle.semantics.specs.Live.{Set, empty, ◌∪◌, ◌∖∖◌, only, just, among, live, uses, after_branch, after_pass}
 use Rattle.semantics.specs.Annotate.{NameDepths, atom_depth, is_array, arrays, dying, handed_again, Style}
 use Rattle.semantics.specs.Annotate.{written, annotate, annotate_line}
 use Rattle.semantics.specs.Machine.{Program}
-use Rattle.laws.specs.Tests.{both_hold, some_if_holds, or_cases, or_left, or_right}
+use Rattle.laws.specs.Tests.{both_hold, or_cases, or_left, or_right}
 use Rattle.laws.specs.Lists.{hits}
-use Rattle.discipline.proofs.machine.Discipline.{array_place, LoopFits, Fitting, AllNew, AllKnown, Scoped}
-use Rattle.soundness.proofs.annotation.Typed.{Functions}
-use Rattle.soundness.proofs.annotation.Rules.{depth_of_map, pass_gives}
+use Rattle.discipline.proofs.machine.Discipline.{LoopFits, Fitting, AllNew, AllKnown, Scoped}
 use Rattle.soundness.proofs.annotation.Members.{members_true}
 use Rattle.soundness.proofs.annotation.Held.{held, held_live, held_among, again_held}
 use Rattle.soundness.proofs.annotation.Sets.{Inside, inside_pass}
@@ -25,6 +22,7 @@ use Rattle.soundness.proofs.annotation.Formed.{bound_by, Placed, Formed, LineFor
 use Rattle.soundness.proofs.annotation.Formed.{within_pass, Shallower, live_seen}
 use Rattle.soundness.proofs.annotation.Written.{written_as}
 use Rattle.soundness.proofs.annotation.Unchanged.{pass, ending_pass}
+use Rattle.soundness.proofs.annotation.LoopsFit.{functions_of, loop_fits, rewrite_fits}
 
 -- ---- names
 
@@ -58,41 +56,7 @@ with_if_in false x n h = absurd (omega arith)
 
 -- ---- depths
 
-module _ (p : Program) where
-  abbrev pub functions_of : Functions
-  functions_of = record { number = length p.routines; signatures = p.signatures }
-
 module _ (p : Program) (Θ : NameDepths) where
-  loop_fits : (x : ℕ) (k : Loop) (ps : List ℕ) (us : List Atom) (d : ℕ) (S : Set) (c : ℕ) →
-      LoopForm (functions_of p) Θ x k ps us d S c → LoopFits p Θ x k ps us d
-  loop_fits x k ps us d S c f = record {
-    limits = f.fits.parted;
-    deep = omega (
-      arith,
-      f.fits.array,
-      depth_of_map Θ us (array_place k),
-    );
-    names = f.depths ∙ sym (pass_gives k Θ us);
-    gives = f.fits.rule;
-  }
-
-  -- a map of numbers to numbers may rewrite its array
-  rewrite_fits : (x y : ℕ) (ps : List ℕ) (d : ℕ) (S : Set) (c : ℕ) → Θ y ≡ 1 → Θ x ≡ 1 →
-      LoopForm (functions_of p) Θ x mapping ps (name y ∷ []) d S c → LoopFits p Θ x rewriting ps (name y ∷ []) d
-  rewrite_fits x y ps d S c array result f =
-      let map_fits = loop_fits x mapping ps (name y ∷ []) d S c f in
-      let shallow : d ≡ 0 = omega (
-        arith,
-        result,
-        (some_if_holds (leb (suc d) 4) (suc d) (Θ x) map_fits.gives).1,
-      ) in
-      record {
-        limits = map_fits.limits;
-        deep = map_fits.deep;
-        names = map_fits.names;
-        gives = (λ i. loop_rule rewriting (array i ∷ shallow i ∷ [])) ∙ ap some (sym result);
-      }
-
   -- a tree that gives depth d, before which the names S are known
   abbrev pub Fits : Tree → ℕ → Set → Type 0
   Fits t d S = Fitting p Θ t d × Scoped t S
@@ -226,11 +190,11 @@ module _ (p : Program) (Θ : NameDepths) where
     written_fits : (x : ℕ) (o : Loop) (ps : List ℕ) (us : List Atom) (d : ℕ) (S : Set) (c : ℕ) (t : Tree) (A : Set) →
         LoopForm (functions_of p) Θ x o ps us d S c → LoopFits p Θ x (written style β Γ o x ps us t A) ps us d
     written_fits x o ps us d S c t A f = elim (written_as style β Γ o x ps us t A f.fits.parted) [
-      | inl e ↦ subst (λ (k : Loop). LoopFits p Θ x k ps us d) (sym e) (loop_fits x o ps us d S c f)
+      | inl e ↦ subst (λ (k : Loop). LoopFits p Θ x k ps us d) (sym e) (loop_fits p Θ x o ps us d S c f)
       | inr r ↦
           subst (λ (k : Loop). LoopFits p Θ x k ps us d) (sym r.is)
           (subst (λ (vs : List Atom). LoopFits p Θ x rewriting ps vs d) (sym r.atoms)
-          (rewrite_fits x r.over ps d S c
+          (rewrite_fits p Θ x r.over ps d S c
           (under.same r.over (omega (arith, r.array)) ∙ r.array)
           (under.same x (omega (arith, r.result)) ∙ r.result)
           (subst (λ (vs : List Atom). LoopForm (functions_of p) Θ x mapping ps vs d S c) r.atoms

@@ -1,23 +1,18 @@
 -- Trees that spare the names that are lent: they bind none of them and hand none over. A plain tree that does not spend
--- them is one, and annotation by depths in which they are numbers keeps it so.
-use Rattle.prelude.specs.Kit.{ℕ, ◌≤◌, ◌<◌, suc, arith, true, false, Bool, ◌&&◌, ◌≡◌, refl, ◌∙◌, sym, subst, inl, inr}
+-- them is one, and an array is not lent by depths in which they are numbers.
+use Rattle.prelude.specs.Kit.{ℕ, ◌≤◌, ◌<◌, suc, arith, true, false, Bool, ◌≡◌, refl}
 use Rattle.prelude.specs.Kit.{List, [], ◌∷◌, length, eq-eqb}
-use Rattle.semantics.specs.Basics.{with_if}
-use Rattle.semantics.specs.Kinds.{Borrowing, Loop, leaf_hands, leaf_reads, loop_hands, loop_reads, is_pending}
-use Rattle.semantics.specs.Kinds.{element_name}
+use Rattle.semantics.specs.Kinds.{Borrowing, leaf_hands, loop_hands}
 use Rattle.semantics.specs.Code.{Atom, number, name, Line, leaf, if_else, loop, retain, release, Tree, end, line}
 use Rattle.semantics.specs.Code.{ending, retain_all, release_all}
-use Rattle.semantics.specs.Live.{Set, empty, ◌∪◌, ◌∖∖◌, only, just, is, among, live, uses, after_branch, after_pass}
+use Rattle.semantics.specs.Live.{Set, empty, ◌∪◌, only, just, is, among}
 use Rattle.semantics.specs.Borrow.{spent, line_spent}
-use Rattle.semantics.specs.Annotate.{NameDepths, atom_depth, is_array, dying, arrays, handed_again, Style}
-use Rattle.semantics.specs.Annotate.{written, annotate}
-use Rattle.semantics.specs.Annotate.{annotate_line}
+use Rattle.semantics.specs.Annotate.{NameDepths, atom_depth, Style}
 use Rattle.laws.specs.Tests.{or_left, or_right}
 use Rattle.discipline.proofs.machine.Discipline.{loop_arity}
 use Rattle.soundness.proofs.annotation.Typed.{Functions}
 use Rattle.soundness.proofs.annotation.Formed.{Within, within_up, not_within, Rising, rising_up, bound_by, Formed}
 use Rattle.soundness.proofs.annotation.Formed.{LineFormed}
-use Rattle.soundness.proofs.annotation.Written.{written_as, written_arity}
 
 -- over the names that are lent
 module _ (lent : Set) where
@@ -112,7 +107,7 @@ module _ (β : Borrowing) (lent : Set) where
 
   -- ---- its annotation
 
-  spares_retains : (xs : List ℕ) (t : Tree) → Spares t → Spares (retain_all xs t)
+  pub spares_retains : (xs : List ℕ) (t : Tree) → Spares t → Spares (retain_all xs t)
   spares_retains [] t s = s
   spares_retains (x ∷ xs) t s = (tt, spares_retains xs t s)
 
@@ -128,62 +123,3 @@ module _ (β : Borrowing) (lent : Set) where
         go : (b : Bool) → lent y ≡ b → b ≡ false
         go true e = absurd (omega (arith, h, numbers y e))
         go false e = refl
-
-    written_owned : (i : Loop) (x : ℕ) (ps : List ℕ) (us : List Atom) (t : Tree) (A : Set) → length us ≡ loop_arity i →
-        AllOwned lent (loop_hands i us) → AllOwned lent (loop_hands (written style β Γ i x ps us t A) us)
-    written_owned i x ps us t A h owns = elim (written_as style β Γ i x ps us t A h) [
-      | inl e ↦ subst (λ (k : Loop). AllOwned lent (loop_hands k us)) (sym e) owns
-      | inr r ↦
-          subst (λ (k : Loop). AllOwned lent (loop_hands k us)) (sym r.is)
-          (subst (AllOwned lent) (sym r.atoms) (array_owned r.over (omega (arith, r.array)), tt))
-    ]
-
-    mutual
-      unfolding annotate
-
-      pub annotated_spares : (t : Tree) (L : Set) → Spares t → Spares (annotate style β Γ t L)
-      annotated_spares (end a) L s = spares_retains (handed_again Γ (a ∷ []) L) (end a) s
-      annotated_spares (line l t) L s =
-          annotated_line_spares l (live t L) (annotate style β Γ t L) s.0 (annotated_spares t L s.1)
-
-      annotated_line_spares : (l : Line) (A : Set) (k : Tree) → LineSpares l → Spares k →
-          Spares (annotate_line style β Γ l A k)
-      annotated_line_spares (leaf x l us) A k h s =
-          let R = among (leaf_reads β l us) empty in
-          let free = dying Γ (R ∪ only x) A in
-          let pend = with_if (is_pending l && is_array Γ x) x [] in
-          let k' = release_all free k in
-          spares_retains (handed_again Γ (leaf_hands β l us) (R ∪ A)) (line (leaf x l us) (retain_all pend k'))
-          (h, spares_retains pend k' (spares_releases free k s))
-      annotated_line_spares (if_else x g t e) A k h s =
-          let L = after_branch x A in (
-            (
-              h.0,
-              spares_releases (dying Γ (uses e) (live t L)) (annotate style β Γ t L) (annotated_spares t L h.1),
-              spares_releases (dying Γ (uses t) (live e L)) (annotate style β Γ e L) (annotated_spares e L h.2),
-            ),
-            spares_releases (dying Γ (only x) A) k s,
-          )
-      annotated_line_spares (loop x i ps us t) A k h s =
-          let j = written style β Γ i x ps us t A in
-          let L = after_pass x ps t A in
-          let R = among (loop_reads j us) (uses t ∖∖ ps) in
-          let free = dying Γ (R ∪ only x) A in
-          let unused = dying Γ (just ps) (live t L) in
-          let t₁ = annotate style β Γ t L in
-          let t₂ = release_all unused t₁ in
-          let t₃ = retain_all (arrays Γ (element_name j ps)) t₂ in
-          let inside : Spares t₃ =
-          spares_retains (arrays Γ (element_name j ps)) t₂ (spares_releases unused t₁ (annotated_spares t L h.3)) in
-          spares_retains (handed_again Γ (loop_hands j us) (R ∪ A)) (line (loop x j ps us t₃) (release_all free k)) (
-            (
-              h.0,
-              written_owned i x ps us t A h.4 h.1,
-              h.2,
-              inside,
-              h.4 ∙ sym (written_arity style β Γ i x ps us t A),
-            ),
-            spares_releases free k s,
-          )
-      annotated_line_spares (retain x) A k h s = (tt, s)
-      annotated_line_spares (release x) A k h s = (tt, s)

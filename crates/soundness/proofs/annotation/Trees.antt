@@ -1,26 +1,23 @@
--- `loop-line`: a loop, as it is written, before a sound tree. It lends the array that it reads to its tree.
-use Rattle.prelude.specs.Kit.{ℕ, ◌≤◌, ◌+◌, ◌<◌, ◌-◌, min, arith, dec_lt, ◌≡◌, refl, ◌∙◌, sym, ap, subst, inl, inr, List}
+-- A loop, as it is written, before a sound tree: what its passes are lent, hold and leave alone.
+use Rattle.prelude.specs.Kit.{ℕ, ◌≤◌, ◌+◌, ◌<◌, ◌-◌, min, arith, dec_lt, ◌≡◌, refl, ◌∙◌, sym, ap, inl, inr, List}
 use Rattle.prelude.specs.Kit.{[], ◌∷◌, ◌++◌, length}
 use Rattle.semantics.specs.Basics.{occurrences, ◌∈◌}
-use Rattle.semantics.specs.Kinds.{Borrowing, Loop, mapping, filtering, reducing, rewriting, loop_hands, loop_reads}
+use Rattle.semantics.specs.Kinds.{Loop, mapping, filtering, reducing, rewriting, loop_hands, loop_reads}
 use Rattle.semantics.specs.Kinds.{element_name}
-use Rattle.semantics.specs.Code.{Atom, loop, Tree, line, retain_all, release_all}
-use Rattle.semantics.specs.Live.{Set, empty, ◌∪◌, ◌∖◌, ◌∖∖◌, only, just, among, live, live_before, uses, after_pass}
-use Rattle.semantics.specs.Annotate.{NameDepths, arrays, dying, Style, annotate}
-use Rattle.discipline.proofs.machine.Discipline.{loop_arity, hold_of, holds_of, handed, less, unlent, left_by}
+use Rattle.semantics.specs.Code.{Atom, Tree}
+use Rattle.semantics.specs.Live.{Set, ◌∖◌, ◌∖∖◌, just, among, live, uses, after_pass}
+use Rattle.semantics.specs.Annotate.{NameDepths}
+use Rattle.discipline.proofs.machine.Discipline.{loop_arity, hold_of, holds_of, handed, less, unlent}
 use Rattle.semantics.specs.Kinds.{carried_name}
-use Rattle.discipline.proofs.machine.Discipline.{outer_holds, pass_lent, pass_holds, aside, Covered, Frugal}
+use Rattle.discipline.proofs.machine.Discipline.{outer_holds, pass_lent, aside}
 use Rattle.laws.specs.Lists.{◌≈◌, occurrences_append}
-use Rattle.discipline.proofs.machine.Spending.{less_counts, same_append, unlent_few, lent_or_not}
+use Rattle.discipline.proofs.machine.Spending.{less_counts, unlent_few, lent_or_not}
 use Rattle.soundness.proofs.annotation.Held.{Few, free, free_or, held, names, held_most, held_or, names_held}
 use Rattle.soundness.proofs.annotation.Held.{append_held, held_pass, just_none, just_most, holds_just, held_among}
 use Rattle.soundness.proofs.annotation.Held.{handed_first}
 use Rattle.soundness.proofs.annotation.Formed.{Rising}
-use Rattle.soundness.proofs.annotation.Moves.{Sound, sound_same, retains, retains_element}
-use Rattle.soundness.proofs.annotation.Unchanged.{live_release_all, pass, written_loop, live_pass}
-use Rattle.soundness.proofs.annotation.Counts.{Needs, releasing, Apart, before, behind, again, retainable}
-use Rattle.soundness.proofs.annotation.Counts.{handable}
-use Rattle.soundness.proofs.annotation.Counts.{left, readable, bound, covered_before}
+use Rattle.soundness.proofs.annotation.Counts.{Needs, Apart, before, again}
+use Rattle.soundness.proofs.annotation.Counts.{left}
 
 only_one : (ps : List ℕ) → length ps ≡ 1 → (q : ℕ) × (ps ≡ q ∷ [])
 only_one [] h = absurd (omega arith)
@@ -28,7 +25,7 @@ only_one (p ∷ []) h = (p, refl)
 only_one (p ∷ q ∷ ps) h = absurd (omega arith)
 
 -- a pass has one element
-element_one : (k : Loop) (ps : List ℕ) → length ps ≡ loop_arity k → (q : ℕ) × (element_name k ps ≡ q ∷ [])
+pub element_one : (k : Loop) (ps : List ℕ) → length ps ≡ loop_arity k → (q : ℕ) × (element_name k ps ≡ q ∷ [])
 element_one mapping ps h = only_one ps h
 element_one filtering ps h = only_one ps h
 element_one reducing [] h = absurd (omega arith)
@@ -47,7 +44,7 @@ module _ (Γ : NameDepths) where
   loop_parts rewriting us n = omega arith
 
   -- each name of a pass holds what is carried, or is the element
-  pass_parts : (k : Loop) (ps : List ℕ) (n : ℕ) → occurrences n (holds_of Γ ps)
+  pub pass_parts : (k : Loop) (ps : List ℕ) (n : ℕ) → occurrences n (holds_of Γ ps)
       ≡ occurrences n (holds_of Γ (element_name k ps)) + occurrences n (holds_of Γ (carried_name k ps))
   unfolding occurrences
   pass_parts mapping ps n = omega arith
@@ -85,7 +82,7 @@ module _ (Γ : NameDepths) where
           ++ names Γ B (before Γ few B x us hands reads used A)
 
       -- what the passes leave alone: all that is live after them, but for the array
-      outer : outer_holds Γ B k us start ≈ names Γ inner after
+      pub outer : outer_holds Γ B k us start ≈ names Γ inner after
       outer n = counted ∙ sum (dec_lt 0 (occurrences n B)) (dec_lt 0 (occurrences n (handed Γ reads)))
           ∙ sym (names_held Γ few inner after n)
         where
@@ -144,7 +141,7 @@ module _ (Γ : NameDepths) where
             )
 
         -- with its names, a pass has what its tree needs
-        given : (n : ℕ) → occurrences n (holds_of Γ ps ++ names Γ inner after)
+        pub given : (n : ℕ) → occurrences n (holds_of Γ ps ++ names Γ inner after)
             ≡ held Γ (just ps) n - held Γ (live t after) n + min (free inner n) (held Γ (live t after) n)
         given n =
             append_held Γ few (holds_of Γ ps) inner after n
@@ -164,74 +161,3 @@ module _ (Γ : NameDepths) where
             sum (no h) =
                 let none : occurrences n ps ≡ 0 = omega arith in
                 omega (arith, just_none Γ ps n none, pass_steady n none)
-
-        pass_sound : (style : Style) (β : Borrowing) →
-            Sound β Γ inner (annotate style β Γ t after) (names Γ inner (live t after)) [] (names Γ inner after) after →
-            Sound β Γ inner (pass style β Γ x k ps t A) (pass_holds Γ B k ps us start) (holds_of Γ (element_name k ps))
-            (outer_holds Γ B k us start) after
-        pass_sound style β s =
-            let t' = release_all (dying Γ (just ps) (live t after)) (annotate style β Γ t after) in
-            let H = pass_holds Γ B k ps us start in
-            let E = element_name k ps in
-            let rest : Sound β Γ inner t' (holds_of Γ ps ++ names Γ inner after) [] (names Γ inner after) after =
-            releasing β Γ few inner (just ps) (live t after) (annotate style β Γ t after) _ [] after given s in
-            let here : Sound β Γ inner t' (holds_of Γ E ++ H) [] (outer_holds Γ B k us start) after =
-            sound_same β Γ inner t' (holds_of Γ ps ++ names Γ inner after) (holds_of Γ E ++ H) []
-            (names Γ inner after) (outer_holds Γ B k us start) after
-            (λ n. omega (
-              arith,
-              pass_parts k ps n,
-              outer n,
-              occurrences_append n (holds_of Γ ps) (names Γ inner after),
-              occurrences_append n (holds_of Γ E) H,
-              occurrences_append n (holds_of Γ (carried_name k ps)) (outer_holds Γ B k us start),
-            ))
-            (λ n. sym (outer n)) rest in
-            let one = element_one k ps passing.named in
-            subst (λ es. Sound β Γ inner (retain_all (arrays Γ es) t') H (holds_of Γ es)
-            (outer_holds Γ B k us start) after)
-            (sym one.1)
-            (retains_element β Γ inner one.0 t' H (outer_holds Γ B k us start) after
-            (subst (λ es. Sound β Γ inner t' (holds_of Γ es ++ H) [] (outer_holds Γ B k us start) after) one.1 here))
-
-        pub loop_line : (style : Style) (β : Borrowing) (L : Set) (j : Tree) → live j L ≡ A →
-            Sound β Γ inner (annotate style β Γ t after) (names Γ inner (live t after)) [] (names Γ inner after) after →
-            Sound β Γ B j (names Γ B A) [] (names Γ B L) L →
-            Sound β Γ B (written_loop style β Γ x k ps us t A j) (names Γ B (live_before (loop x k ps us t) A)) []
-            (names Γ B L) L
-        unfolding annotate live left_by
-        loop_line style β L j same s sound =
-            let free = dying Γ (among reads used ∪ only x) A in
-            let j' = release_all free j in
-            let t' = pass style β Γ x k ps t A in
-            let rest = less (handed Γ hands) start in
-            let q : live j' L ≡ A = live_release_all free j L ∙ same in
-            let pass_same : after_pass x ps t' (live j' L) ≡ after =
-            λ i. live_pass style β Γ x k ps t A empty i ∖∖ ps ∪ q i ∖ x in
-            let inside = pass_sound style β s in
-            let s' : Sound β Γ B j' (hold_of Γ x ++ rest) [] (names Γ B L) L =
-            sound_same β Γ B j' (hold_of Γ x ++ names Γ B (behind Γ few B x us hands reads used A))
-            (hold_of Γ x ++ rest) [] (names Γ B L) (names Γ B L) L
-            (same_append (hold_of Γ x) _ rest (λ n. sym (left Γ few B x us hands reads used A apart n))) (λ n. refl)
-            (releasing β Γ few B (among reads used ∪ only x) A j _ [] L
-            (bound Γ few B x us hands reads used A apart) sound) in
-            retains β Γ B (again Γ few B x us hands reads used A) (line (loop x k ps us t') j')
-            (names Γ B (before Γ few B x us hands reads used A)) (names Γ B L) L
-            (retainable Γ few B x us hands reads used A apart) (
-              (
-                (
-                  handable Γ few B x us hands reads used A apart,
-                  readable Γ few B x us hands reads used A apart,
-                  inside.0,
-                ),
-                s'.0,
-              ),
-              (
-                (
-                  subst (λ M. Covered Γ start (among us M)) (sym pass_same)
-                      (covered_before Γ few B x us hands reads used A apart),
-                  subst (Frugal β Γ inner t' (pass_holds Γ B k ps us start)) (sym pass_same) inside.1,
-                ),
-                s'.1,
-              ),
-            )
