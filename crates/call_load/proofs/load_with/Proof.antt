@@ -9,10 +9,10 @@ use Rattle.call_load.proofs.Tables.{table_after, laid_within, loads_with_laid, l
 use Rattle.call_load.proofs.load_with.Statement.{statement}
 use Rattle.call_load.proofs.load_with.Tie as tie
 
-add_end : tie.Need-overflow-add-end
+add_end : tie.Need-overflow_add-end
 add_end c =
-    let a = c.before.before.before.before.before.before.before.before.args in
-    let j = subst (Judges a.file.now) c.before.functions.given.1 c.before.before.before.judge.ensures.0 in let t = file_taken (accepted_file _ _ _ j) in record {
+    let a = c.args in
+    let j = subst (Judges a.file.now) c.in-Accepted.is c.judge.ensures.0 in let t = file_taken (accepted_file _ _ _ j) in record {
       fits = omega (
         arith,
         t.sized,
@@ -20,94 +20,79 @@ add_end c =
       );
     }
 
-part_file_kinds_end : tie.Need-slice-bounds-file-kinds-end
+part_file_kinds_end : tie.Need-slice_bounds-file_kinds-end
 part_file_kinds_end c =
-    let a = c.before.before.before.before.before.before.before.before.args in
-    let j = subst (Judges a.file.now) c.before.functions.given.1 c.before.before.before.judge.ensures.0 in omega (arith, (file_taken (accepted_file _ _ _ j)).long)
+    let a = c.args in
+    let j = subst (Judges a.file.now) c.in-Accepted.is c.judge.ensures.0 in omega (arith, (file_taken (accepted_file _ _ _ j)).long)
 
-sub_file_operands : tie.Need-overflow-sub-file-operands
+sub_file_operands : tie.Need-slice_bounds-file_operands-count
 sub_file_operands c =
-    let a = c.before.before.before.before.before.before.before.before.before.args in
-    let j = subst (Judges a.file.now) c.before.before.functions.given.1 c.before.before.before.before.judge.ensures.0 in omega (arith, (file_taken (accepted_file _ _ _ j)).long)
+    let a = c.args in
+    let j = subst (Judges a.file.now) c.in-Accepted.is c.judge.ensures.0 in omega (arith, (file_taken (accepted_file _ _ _ j)).long)
 
-part_file_operands_start : tie.Need-slice-bounds-file-operands-start
+part_file_operands_start : tie.Need-slice_bounds-file_operands-start
 part_file_operands_start c =
-    let a = c.before.before.before.before.before.before.before.before.before.args in
-    let j = subst (Judges a.file.now) c.before.before.functions.given.1 c.before.before.before.before.judge.ensures.0 in omega (arith, (file_taken (accepted_file _ _ _ j)).long)
+    let a = c.args in
+    let j = subst (Judges a.file.now) c.in-Accepted.is c.judge.ensures.0 in omega (arith, (file_taken (accepted_file _ _ _ j)).long)
 
-translate_accepted_requires : tie.Need-translate-accepted-requires
+translate_accepted_requires : tie.Need-translate_accepted-requires
 translate_accepted_requires c κs =
-    let at-functions = c.before.before.before.before.before.before.before.before.functions in
-    let at-judge = c.before.before.before.before.before.before.before.before.before.before.judge in
-    let a = c.before.before.before.before.before.before.before.before.before.before.before.before.before.before.before.args in
-    let j = subst (Judges a.file.now) at-functions.given.1 at-judge.ensures.0 in translatable
+    let at-judge = c.judge in
+    let a = c.args in
+    let j = subst (Judges a.file.now) c.in-Accepted.is at-judge.ensures.0 in translatable
     (accepted_file _ _ _ j) at-judge.ensures.1
 
 fill_requires : tie.Need-fill-requires
 fill_requires c κs =
-    let n = c.before.before.before.before.n in
-    let at-laid = c.before.before.before.before.before.before.before.before.before.before.before in
-    let at-functions = at-laid.before.before.before.before.before.before.before.before.before in
-    let at-judge = at-functions.before.before in
-    let a = at-judge.before.before.before.before.before.args in
-    let laid = at-laid.translate-accepted in
-    let j = subst (Judges a.file.now) at-functions.functions.given.1 at-judge.judge.ensures.0 in
+    let a = c.args in
+    let laid = c.translate_accepted in
+    let j = subst (Judges a.file.now) c.in-Accepted.is c.judge.ensures.0 in
     let accepted = accepted_file _ _ _ j in (
       (file_taken accepted).readable.few,
-      laid_within accepted a.kinds.now laid.new.1.1.1.1.1.0 a.operands.now
-          laid.new.1.1.1.1.1.1.0 (laid_outcome laid.result) n.given.0.0
-          (ap laid_outcome n.given.1) laid.ensures.0,
+      laid_within accepted a.kinds.now laid.new.ks a.operands.now
+          laid.new.os (laid_outcome laid.result) c.in-Lines.n
+          (ap laid_outcome c.in-Lines.is) laid.ensures.0,
     )
 
-returns : tie.Need-returns
+returns : tie.Need-returns-in-Lines
 returns c =
-    let at_n = c.before.before.before.before.before.before.before in
-    let at-laid = at_n.before.before.before.before.before.before.before in
-    let at-functions = at-laid.before.before.before.before.before.before.before.before.before in
-    let at-judge = at-functions.before.before in
-    let a = at-judge.before.before.before.before.before.args in
-    let laid = at-laid.translate-accepted in
-    let d = at-laid.before.before.before.before.before.high_at in
-    let j = subst (Judges a.file.now) at-functions.functions.given.1 at-judge.judge.ensures.0 in
-    let functions = at-functions.functions.given.0.0 in
-    let places = laid.new.1.1.0 in
-    let table = laid.new.1.1.1.1.0 in
-    let kinds = laid.new.1.1.1.1.1.0 in
-    let operands = laid.new.1.1.1.1.1.1.0 in
-    rw c.before.before.fill.ensures
+    let a = c.args in
+    let laid = c.translate_accepted in
+    let d = c.high_at-depth in
+    let j = subst (Judges a.file.now) c.in-Accepted.is c.judge.ensures.0 in
+    let places = laid.new.starts in
+    let table = laid.new.table in
+    let kinds = laid.new.ks in
+    let operands = laid.new.os in
+    rw c.fill.ensures
     (subst (λ r. LoadsWith a.file.now a.kinds.now a.operands.now a.table.now (ready d.result
-    (laid_outcome r)) kinds operands (table_after functions kinds places (laid_outcome r) table))
-    at_n.n.given.1
+    (laid_outcome r)) kinds operands (table_after c.in-Accepted.functions kinds places (laid_outcome r) table))
+    c.in-Lines.is
     (loads_with_laid (laid_outcome laid.result) d.result table _ places j d.ensures laid.ensures.0
     laid.ensures.1.0 laid.ensures.1.1))
 
-returns_2 : tie.Need-returns-2
+returns_2 : tie.Need-returns-in-TooLong
 returns_2 c =
-    let at-laid = c.before.before.before.before.before.before.before in
-    let at-functions = at-laid.before.before.before.before.before.before.before.before.before in
-    let at-judge = at-functions.before.before in
-    let a = at-judge.before.before.before.before.before.args in
-    let laid = at-laid.translate-accepted in
-    let d = at-laid.before.before.before.before.before.high_at in
-    let j = subst (Judges a.file.now) at-functions.functions.given.1 at-judge.judge.ensures.0 in
-    let functions = at-functions.functions.given.0.0 in
-    let places = laid.new.1.1.0 in
-    let table = laid.new.1.1.1.1.0 in
-    let kinds = laid.new.1.1.1.1.1.0 in
-    let operands = laid.new.1.1.1.1.1.1.0 in
+    let a = c.args in
+    let laid = c.translate_accepted in
+    let d = c.high_at-depth in
+    let j = subst (Judges a.file.now) c.in-Accepted.is c.judge.ensures.0 in
+    let places = laid.new.starts in
+    let table = laid.new.table in
+    let kinds = laid.new.ks in
+    let operands = laid.new.os in
     subst (λ r. LoadsWith a.file.now a.kinds.now a.operands.now a.table.now
     (ready d.result (laid_outcome r)) kinds operands
-    (table_after functions kinds places (laid_outcome r) table)) c.enum_told.given.1
+    (table_after c.in-Accepted.functions kinds places (laid_outcome r) table)) c.in-TooLong.is
     (loads_with_laid (laid_outcome laid.result) d.result table _ places j d.ensures laid.ensures.0
     laid.ensures.1.0 laid.ensures.1.1)
 
-returns_3 : tie.Need-returns-3
+returns_3 : tie.Need-returns-in-Refused
 returns_3 c =
-    let at_number = c.before.before.before.before.before.before.before.before.number in
-    let at-judge = c.before.before.before.before.before.before.before.before.before.before.judge in
-    let a = c.before.before.before.before.before.before.before.before.before.before.before.before.before.before.before.args in
-    let told = c.before.before.before.before.before.before.before.known-told3 in let parts = at_number.given.0 in let cleared = c.before.before.before.before.clear-code in let refused = subst (Judges a.file.now) at_number.given.1 at-judge.ensures.0 in let small = packed_small {number = parts.0}
-    {node = parts.1.0} {count = 0} {cells = 0} (omega (arith, told.given.0.1)) (omega (
+    let at-judge = c.judge in
+    let a = c.args in
+    let told = c.in-Refused.known_told-in-Refused-1-own in let cleared = c.clear_code in let refused = subst (Judges a.file.now) c.in-Refused.is at-judge.ensures.0 in let small = packed_small {number = c.in-Refused.number}
+    {node = c.in-Refused.node} {count = 0} {cells = 0} (omega (arith, told.given.0.1)) (omega (
       arith,
       node_fits a.file.now refused,
     )) (omega arith) (omega arith) in loads_with_refusal refused (c.pack.ensures ∙ small) cleared.ensures.0 cleared.ensures.1

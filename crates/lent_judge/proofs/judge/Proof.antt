@@ -1,6 +1,7 @@
 -- `lent_judge::judge` meets its contract.
+use Rattle.prelude.specs.Kit.{ap, not}
 use Rattle.prelude.specs.Kit.{ℕ, ◌≤◌, arith, sym, subst, List, length, take, length-take, length-take-le, rules}
-use Rattle.prelude.specs.Kit.{not-true, not-false}
+use Rattle.prelude.specs.Kit.{true, false, ◌≡◌, not-true, not-false}
 use Rattle.machine_spec.specs.Machine as M
 use Rattle.lent_machine_laws.specs.Stands.{LentCoded}
 use Rattle.lent_judge.proofs.Laws.{InForm, in_form, not_in_form, fits_so, fits_not, refuses_form, refuses_fit}
@@ -61,7 +62,7 @@ fill_requires c κs =
       (
         omega (
           arith,
-          length-take at-lines.lines-1.given.0.0 at-lines.args.kinds.now,
+          length-take at-lines.in-Accepted.lines at-lines.args.kinds.now,
           fits.kinds_long,
         ),
         fits.few,
@@ -76,8 +77,9 @@ returns c =
     let f = formed at-lines in
     let walked = c.hold-walked in
     let fits = fits_so (fit_so f a.depth (rw c.in-Next.is at c.fit.ensures)).says in
+    let unfit : walked.result.fine ≡ false = not-true walked.result.fine c.if-not-walked.true in
     refuses_hold a.kinds.now a.operands.now a.depth f.formed fits.fitted
-    (rw (c.if-not-walked.true) at
+    (rw unfit at
     (hold_so f a.depth walked.result.fine walked.result.at fits.fitted fits.laid
     c.borrow_table-borrowed.ensures.0 walked.ensures))
 
@@ -88,14 +90,15 @@ returns_2 c =
     let walked = c.hold-walked in
     let told = fit_so f a.depth (rw c.in-Next.is at c.fit.ensures) in
     let fits = fits_so told.says in
+    let fine : walked.result.fine ≡ true = not-false walked.result.fine c.if-not-walked.false in
     passes a.kinds.now a.operands.now a.depth f.formed fits.fitted
-    (rw (c.if-not-walked.false) at
+    (rw fine at
     (hold_so f a.depth walked.result.fine walked.result.at fits.fitted fits.laid
     c.borrow_table-borrowed.ensures.0
     walked.ensures))
     (lines_fit f) (λ long.
     subst (λ (t : List ℕ). LentCoded f.found fits.depths
-    (M.code (take at-lines.lines-1.given.0.0 a.kinds.now) (take at-lines.lines-1.given.0.0 a.operands.now) t))
+    (M.code (take at-lines.in-Accepted.lines a.kinds.now) (take at-lines.in-Accepted.lines a.operands.now) t))
     (sym c.fill.ensures)
     (coded_so f a.depth fits.fitted fits.laid (omega (arith, long, told.kept.long))))
 

@@ -7,27 +7,27 @@ use Rattle.prelude.specs.Kit.{rules}
 use Rattle.machine_delivery.proofs.deliver_kept.Statement.{statement}
 use Rattle.machine_delivery.proofs.deliver_kept.Tie as tie
 
-returns : tie.Need-returns
+returns : tie.Need-returns-then-number-ne0
 returns c =
-    let a = c.before.before.before.before.before.before.before.before.before.before.before.before.before.before.before.before.before.before.before.before.before.before.before.before.before.before.before.args in
-    let tried = c.before.before.before.before.before.before.before.before.before.before.before.before.attempt in
-    let back = c.before.before.before.put_back in
-    let slots = c.before.before.before.before.before.before.before.before.before.before.before.before.before.before.before.before.before.before.before.before.before.save-slots in
-    let heads = c.before.before.before.before.before.before.before.before.before.before.before.before.before.before.before.before.before.save-heads in
+    let a = c.args in
+    let tried = c.attempt-r in
+    let back = c.put_back in
+    let slots = c.save_slots in
+    let heads = c.save_heads in
     delivery_stops (code a.kinds.now a.operands.now a.table.now) a.readings.now a.depth a.budget
-    (store_of a.slots.now a.heads.now) tried.result tried.last.1.1.1.0 tried.last.1.1.1.1.0
-    tried.ensures c.before.before.before.before.before.before.before.before.if1.true back.new.0
-    back.new.1.0
-    (put_back_is a.slots.now a.heads.now slots.last.0 heads.last.0 slots.ensures heads.ensures
-    tried.kept.1.1.1.0 tried.kept.1.1.1.1.0 back.ensures)
+    (store_of a.slots.now a.heads.now) tried.result tried.new.slots tried.new.heads
+    tried.ensures c.if-number-ne0.true back.new.slots
+    back.new.heads
+    (put_back_is a.slots.now a.heads.now slots.new.saved heads.new.saved slots.ensures heads.ensures
+    tried.auto.slots tried.auto.heads back.ensures)
 
-returns_2 : tie.Need-returns-2
+returns_2 : tie.Need-returns-else-number-ne0
 returns_2 c =
-    let a = c.before.before.before.before.before.before.before.before.before.before.before.before.before.before.before.before.before.before.before.args in
-    let tried = c.before.before.before.before.attempt in
+    let a = c.args in
+    let tried = c.attempt-r in
     delivery_goes (code a.kinds.now a.operands.now a.table.now) a.readings.now a.depth a.budget
-    (store_of a.slots.now a.heads.now) tried.result tried.new.1.1.1.0 tried.new.1.1.1.1.0
-    tried.ensures c.if1.false
+    (store_of a.slots.now a.heads.now) tried.result tried.new.slots tried.new.heads
+    tried.ensures c.if-number-ne0.false
 
 pub deliver_kept_spec : {M : Type 1} → statement M
 deliver_kept_spec =

@@ -5,18 +5,17 @@ use Rattle.store_words.proofs.Spelling.{shaped_means}
 use Rattle.machine_delivery.proofs.deliver_on.Statement.{statement}
 use Rattle.machine_delivery.proofs.deliver_on.Tie as tie
 
-deliver_kept_requires : tie.Need-deliver-kept-requires
+deliver_kept_requires : tie.Need-deliver_kept-requires
 deliver_kept_requires c κs =
-    let start = c.before.before.before.before.before.before.before in
-    let a = start.args in
-    let fit = shaped_means a.slots.now a.heads.now start.requires.0 in (
+    let a = c.args in
+    let fit = shaped_means a.slots.now a.heads.now c.requires.0 in (
       omega (arith, fit.slots_long),
       omega (
         arith,
         fit.slots_long,
         few_cells a.slots.now a.heads.now,
         length-replicate {A = ℤ} 257 (pos 0),
-        c.before.before.before.before.if1.true,
+        c.if-slots-le-FEW_SLOTS.true,
       ),
       omega (
         arith,
@@ -25,16 +24,15 @@ deliver_kept_requires c κs =
         few_cells a.slots.now
             a.heads.now,
         length-replicate {A = ℕ} 65 0,
-        c.before.before.before.before.if1.true,
+        c.if-slots-le-FEW_SLOTS.true,
       ),
-      start.requires.1,
+      c.requires.1,
     )
 
-deliver_kept_requires_2 : tie.Need-deliver-kept-requires-2
+deliver_kept_requires_2 : tie.Need-deliver_kept-requires-2
 deliver_kept_requires_2 c κs =
-    let start = c.before.before.before.before.before.before.before in
-    let a = start.args in
-    let fit = shaped_means a.slots.now a.heads.now start.requires.0 in (
+    let a = c.args in
+    let fit = shaped_means a.slots.now a.heads.now c.requires.0 in (
       omega (arith, fit.slots_long),
       omega (
         arith,
@@ -51,7 +49,7 @@ deliver_kept_requires_2 c κs =
             a.heads.now,
         length-replicate {A = ℕ} 1025 0,
       ),
-      start.requires.1,
+      c.requires.1,
     )
 
 pub deliver_on_spec : {M : Type 1} → statement M

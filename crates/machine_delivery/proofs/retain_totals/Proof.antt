@@ -5,12 +5,12 @@ use Rattle.machine_delivery.proofs.Laws.{retain_some, retain_none}
 use Rattle.machine_delivery.proofs.retain_totals.Statement.{statement}
 use Rattle.machine_delivery.proofs.retain_totals.Tie as tie
 
-returns : tie.Need-returns
-returns c = retain_some c.before.before.before.before.before.before.before.args.depth c.before.before.before.named-cell.result c.before.before.before.before.before.before.before.args.old (rw (to_z-of_z
-    {z = c.before.before.before.before.before.before.before.args.old} c.before.before.before.before.before.before.before.ranges.old) at c.before.before.before.named-cell.ensures) (store_of c.before.before.before.before.before.before.before.args.slots.now c.before.before.before.before.before.before.before.args.heads.now) _ c.before.before.before.before.before.if1.true c.before.before.retain.ensures
+returns : tie.Need-returns-then-depth-ne0
+returns c = retain_some c.args.depth c.named_cell.result c.args.old (rw (to_z-of_z
+    {z = c.args.old} c.ranges.old) at c.named_cell.ensures) (store_of c.args.slots.now c.args.heads.now) _ c.if-depth-ne0.true c.retain.ensures
 
-returns_2 : tie.Need-returns-2
-returns_2 c = retain_none c.before.before.args.depth c.before.before.args.old (store_of c.before.before.args.slots.now c.before.before.args.heads.now) c.if1.false
+returns_2 : tie.Need-returns-else-depth-ne0
+returns_2 c = retain_none c.args.depth c.args.old (store_of c.args.slots.now c.args.heads.now) c.if-depth-ne0.false
 
 pub retain_totals_spec : {M : Type 1} → statement M
 retain_totals_spec =
