@@ -10,7 +10,7 @@ use Rattle.lent_judge.proofs.judge.Tie as tie
 
 -- ---- the code in form, and its lines in the two arrays
 
-formed : (c : tie.In-Accepted-2) →
+formed : (c : tie.In-Accepted) →
     let a = c.args in
     InForm a.kinds.now a.operands.now c.in-Accepted.lines c.in-Accepted.functions
     c.form.new.starts
@@ -18,7 +18,7 @@ formed c =
     let a = c.args in
     in_form a.kinds.now a.operands.now _ _ (rw c.in-Accepted.is at c.form.ensures)
 
-few_lines : (c : tie.In-Accepted-2) → length (take c.in-Accepted.lines c.args.kinds.now) ≤ 4096
+few_lines : (c : tie.In-Accepted) → length (take c.in-Accepted.lines c.args.kinds.now) ≤ 4096
 few_lines c = omega (
   arith,
   length-take c.in-Accepted.lines c.args.kinds.now,

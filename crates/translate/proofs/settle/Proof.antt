@@ -6,12 +6,12 @@ use Rattle.translate.proofs.settle.Tie as tie
 
 returns : tie.Need-returns
 returns c =
-    let at-move-operands = c.before.before.before.before.before.before.before.before.move-operands in
-    let at-move-kinds = c.before.before.before.before.before.before.before.before.before.before.before.before.move-kinds in
-    let at_pre = c.before.before.before.before.before.before.before.before.before.before.before.before.before.before.before.requires in
-    let a = c.before.before.before.before.before.before.before.before.before.before.before.before.before.before.before.args in (
-      settled a.ks.now _ _ a.at a.n 0 at_pre.0 at-move-kinds.ensures c.before.before.before.before.before.clear-bytes.ensures,
-      settled a.os.now _ _ a.at a.n (pos 0) at_pre.1 at-move-operands.ensures c.before.clear-words.ensures,
+    let at-move-operands = c.move_operands in
+    let at-move-kinds = c.move_kinds in
+    let at_pre = c.requires in
+    let a = c.args in (
+      settled a.ks.now _ _ a.at a.n 0 at_pre.0 at-move-kinds.ensures c.clear_bytes.ensures,
+      settled a.os.now _ _ a.at a.n (pos 0) at_pre.1 at-move-operands.ensures c.clear_words.ensures,
     )
 
 pub settle_spec : {M : Type 1} → statement M

@@ -5,64 +5,47 @@ use Rattle.translate.proofs.Answers.{refused_is, accepted_is}
 use Rattle.translate.proofs.translate_accepted.Statement.{statement}
 use Rattle.translate.proofs.translate_accepted.Tie as tie
 
-returns : tie.Need-returns
+returns : tie.Need-returns-then-w-eq0
 returns c =
-    let at_clear = c.before.before.before in
-    let at-if1 = at_clear.before.before.before in
-    let at-script-code = at-if1.before.before.before.before.before.before in
-    let at-most-of2 = at-script-code.before.before.before.before.before in
-    let at-most-of = at-most-of2.before in
-    let start = at-most-of.before.before.before.before.before in
-    let a = start.args in
-    let t = start.requires in
-    let e : at-most-of2.at-most2.result ≡ room a.ks.now a.os.now =
-    at-most-of2.at-most2.ensures ∙ ap (min 4096) at-most-of.at_most.ensures in
-    let coded = at-script-code.script-code.ensures in
+    let a = c.args in
+    let t = c.requires in
+    let e : c.at_most-most.result ≡ room a.ks.now a.os.now =
+    c.at_most-most.ensures ∙ ap (min 4096) c.at_most-both.ensures in
+    let coded = c.script_code-w.ensures in
     let wrote = rw t.reads at coded.0 in
     rw t.reads (
-      refused_is t.tree a.ks.now a.os.now _ _ e wrote at-if1.if1.true _ _
-          (at_clear.clear-code.ensures.0 ∙ ap (λ n. replicate n 0) wrote.long_kinds)
-          (at_clear.clear-code.ensures.1 ∙ ap (λ n. replicate n (pos 0)) wrote.long_operands),
+      refused_is t.tree a.ks.now a.os.now _ _ e wrote c.if-w-eq0.true _ _
+          (c.clear_code.ensures.0 ∙ ap (λ n. replicate n 0) wrote.long_kinds)
+          (c.clear_code.ensures.1 ∙ ap (λ n. replicate n (pos 0)) wrote.long_operands),
       (rw t.reads at coded.1.0, rw (t.reads, e) at coded.1.1),
     )
 
-sub_n : tie.Need-overflow-sub-n
+sub_n : tie.Need-overflow_sub-n
 sub_n c =
-    let at-script-code = c.before.before.before.before.before.before in
-    let at-most-of2 = at-script-code.before.before.before.before.before in
-    let t = at-most-of2.before.before.before.before.before.before.requires in
-    let wrote = rw t.reads at at-script-code.script-code.ensures.0 in
+    let t = c.requires in
+    let wrote = rw t.reads at c.script_code-w.ensures.0 in
     omega (arith, wrote.at)
 
 settle_requires : tie.Need-settle-requires
 settle_requires c κs =
-    let at-script-code = c.before.before.before.before.before.before.before.before in
-    let at-most-of2 = at-script-code.before.before.before.before.before in
-    let at-most-of = at-most-of2.before in
-    let t = at-most-of.before.before.before.before.before.requires in
-    let wrote = rw t.reads at at-script-code.script-code.ensures.0 in
-    let most = at-most-of2.at-most2.ensures in
-    let both = at-most-of.at_most.ensures in (
+    let t = c.requires in
+    let wrote = rw t.reads at c.script_code-w.ensures.0 in
+    let most = c.at_most-most.ensures in
+    let both = c.at_most-both.ensures in (
       omega (arith, wrote.at, wrote.long_kinds, both, most),
       omega (arith, wrote.at, wrote.long_operands, both, most),
     )
 
-returns_2 : tie.Need-returns-2
+returns_2 : tie.Need-returns
 returns_2 c =
-    let at-settle = c.before.before.before in
-    let at-if1 = at-settle.before.before.before in
-    let at-script-code = at-if1.before.before.before.before.before.before in
-    let at-most-of2 = at-script-code.before.before.before.before.before in
-    let at-most-of = at-most-of2.before in
-    let start = at-most-of.before.before.before.before.before in
-    let a = start.args in
-    let t = start.requires in
-    let e : at-most-of2.at-most2.result ≡ room a.ks.now a.os.now =
-    at-most-of2.at-most2.ensures ∙ ap (min 4096) at-most-of.at_most.ensures in
-    let coded = at-script-code.script-code.ensures in
+    let a = c.args in
+    let t = c.requires in
+    let e : c.at_most-most.result ≡ room a.ks.now a.os.now =
+    c.at_most-most.ensures ∙ ap (min 4096) c.at_most-both.ensures in
+    let coded = c.script_code-w.ensures in
     rw t.reads (
       accepted_is t.tree a.ks.now a.os.now _ _ e (rw t.reads at coded.0)
-          (omega (arith, at-if1.if1.false)) _ _ at-settle.settle.ensures.0 at-settle.settle.ensures.1,
+          (omega (arith, c.if-w-eq0.false)) _ _ c.settle.ensures.0 c.settle.ensures.1,
       (rw t.reads at coded.1.0, rw (t.reads, e) at coded.1.1),
     )
 

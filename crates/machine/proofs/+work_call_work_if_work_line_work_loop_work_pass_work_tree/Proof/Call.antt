@@ -38,16 +38,15 @@ passed t c =
 pub work_call_pass_arguments_requires : (t : ℕ) → work-call-lts.Need-pass_arguments-requires (work_call_claims t)
     (work_call_at t)
     work-call.Post
-work_call_pass_arguments_requires t c κs =
-    (
-      omega (arith, c.requires.1.0),
-      omega (arith, c.start_in-head.ensures.1),
-      omega (arith, c.name_at-n.type_inv),
-      omega (arith, c.if-calls-eq0.false),
-      c.requires.1.1,
-      c.requires.1.2,
-      c.requires.1.3,
-    )
+work_call_pass_arguments_requires t c κs = (
+  omega (arith, c.requires.1.0),
+  omega (arith, c.start_in-head.ensures.1),
+  omega (arith, c.name_at-n.type_inv),
+  omega (arith, c.if-calls-eq0.false),
+  c.requires.1.1,
+  c.requires.1.2,
+  c.requires.1.3,
+)
 
 pub work_call_set_function_requires : (t : ℕ) → work-call-lts.Need-set_function-requires (work_call_claims t)
     (work_call_at t)

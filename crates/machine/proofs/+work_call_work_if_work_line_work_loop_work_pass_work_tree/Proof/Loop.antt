@@ -62,8 +62,7 @@ pub work_loop_end_loop_requires : (t : ℕ) → work-loop-lts.Need-end_loop-requ
     (work_loop_at t) work-loop.Post
 work_loop_end_loop_requires t c κs =
     let at-passes = c.before.before.before.before.before.before.before.before.before.before.before.before.before in let a = at-passes.args in
-    let k = code a.kinds.now.now a.operands.now.now a.table.now in
-    (
+    let k = code a.kinds.now.now a.operands.now.now a.table.now in (
       at-passes.requires.1.1,
       passes_long k a.lines a.calls at-passes.in-Ready.passes.way (a.at + c.rows_before.result) at-passes.in-Ready.passes.first at-passes.in-Ready.passes.second
           at-passes.in-Ready.passes.from at-passes.in-Ready.passes.count at-passes.in-Ready.passes.carried 0 (a.steps - 1)
