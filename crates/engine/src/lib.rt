@@ -1,5 +1,6 @@
-// The calls for C, each of which answers one packed number. Those for a script take its file and the two code arrays,
-// and translate afresh; those for lent code take it in the two code arrays, judge it afresh, and write no word of it.
+// The calls, each of which answers one packed number; crate engine_c exports them for C. Those for a script take its
+// file and the two code arrays, and translate afresh; those for lent code take it in the two code arrays, judge it
+// afresh, and write no word of it.
 #![tactic(auto)]
 
 ghost use Rattle.semantics.specs.Calls.{engine_translate, engine_open, engine_check, engine_deliver};
@@ -11,8 +12,7 @@ use call_load::Loaded;
 use machine_code::TABLE_BYTES;
 
 // Translates a script: its code in the two arrays, and its lines in the answer.
-#[unsafe(no_mangle)]
-pub extern "C" fn engine_translate(file: &[u8], kinds: &mut [u8], operands: &mut [i64]) -> u64
+pub fn engine_translate(file: &[u8], kinds: &mut [u8], operands: &mut [i64]) -> u64
     ensures { Translates
         (engine_translate file.now kinds.old operands.old)
         result kinds.new operands.new }
@@ -24,8 +24,7 @@ pub extern "C" fn engine_translate(file: &[u8], kinds: &mut [u8], operands: &mut
 }
 
 // Opens a store for a script.
-#[unsafe(no_mangle)]
-pub extern "C" fn engine_open(
+pub fn engine_open(
     file: &[u8],
     kinds: &mut [u8],
     operands: &mut [i64],
@@ -47,8 +46,7 @@ pub extern "C" fn engine_open(
 }
 
 // Checks the store of a script; its words stay as they are.
-#[unsafe(no_mangle)]
-pub extern "C" fn engine_check(
+pub fn engine_check(
     file: &[u8],
     kinds: &mut [u8],
     operands: &mut [i64],
@@ -70,8 +68,7 @@ pub extern "C" fn engine_check(
 }
 
 // Delivers readings to a script on its store, within a budget of steps. The machine is lent the code cut to its lines.
-#[unsafe(no_mangle)]
-pub extern "C" fn engine_deliver(
+pub fn engine_deliver(
     file: &[u8],
     kinds: &mut [u8],
     operands: &mut [i64],
@@ -105,8 +102,7 @@ pub extern "C" fn engine_deliver(
 }
 
 // Saves the totals of a script's store in a buffer, from which a restore takes them; the store stays as it is.
-#[unsafe(no_mangle)]
-pub extern "C" fn engine_save(
+pub fn engine_save(
     file: &[u8],
     kinds: &mut [u8],
     operands: &mut [i64],
@@ -132,8 +128,7 @@ pub extern "C" fn engine_save(
 }
 
 // Opens a store for a script with the totals of a saved file.
-#[unsafe(no_mangle)]
-pub extern "C" fn engine_restore(
+pub fn engine_restore(
     file: &[u8],
     kinds: &mut [u8],
     operands: &mut [i64],
@@ -156,8 +151,7 @@ pub extern "C" fn engine_restore(
 }
 
 // Checks lent code for main of a depth: its lines in the answer, or the line at fault.
-#[unsafe(no_mangle)]
-pub extern "C" fn engine_check_code(kinds: &[u8], operands: &[i64], depth: u64) -> u64
+pub fn engine_check_code(kinds: &[u8], operands: &[i64], depth: u64) -> u64
     ensures { Translates
         (engine_check_code kinds.now operands.now depth)
         result kinds.now operands.now }
@@ -166,8 +160,7 @@ pub extern "C" fn engine_check_code(kinds: &[u8], operands: &[i64], depth: u64) 
 }
 
 // Delivers readings by lent code, for main of a depth, on a store, within a budget of steps.
-#[unsafe(no_mangle)]
-pub extern "C" fn engine_deliver_code(
+pub fn engine_deliver_code(
     kinds: &[u8],
     operands: &[i64],
     depth: u64,

@@ -25,4 +25,4 @@ pub use tally::{
     CHECK, CHECK_CODE, DELIVER, DELIVER_CODE, OPEN, RESTORE, SAVE, TALLY_WORDS, TRANSLATE, Tally,
     count_call, print_tally, turn_to,
 };
-pub use text::{case_end, line_at, line_of, past, read_text, stands_at};
+pub use text::{case_end, line_at, line_of, past, read_full, read_text, stands_at};

@@ -8,15 +8,17 @@ use std::{fs, io};
 
 // Reads a file of cases, and answers how many bytes it has.
 pub fn read_text<R: Files>(rt: &R, name: &str, text: &mut [u8]) -> io::Result<usize>
-    ensures { IfOk result (λ n. IsPrefixLen n text.new) }
+    ensures read { IfOk result (λ n. IsPrefixLen n text.new) }
+    ensures as_long { length text.new ≡ length text.old }
 {
     let mut file = fs::open(rt, name)?;
     read_full(&mut file, text)
 }
 
-// Reads until the text is full or the file ends, and answers how many bytes there are.
-fn read_full<F: Read>(file: &mut F, text: &mut [u8]) -> io::Result<usize>
-    ensures { IfOk result (λ n. IsPrefixLen n text.new) }
+// Reads until the text is full or the input ends, and answers how many bytes there are.
+pub fn read_full<F: Read>(file: &mut F, text: &mut [u8]) -> io::Result<usize>
+    ensures read { IfOk result (λ n. IsPrefixLen n text.new) }
+    ensures as_long { length text.new ≡ length text.old }
 {
     let mut n = 0;
     while n < text.len() {
