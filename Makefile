@@ -10,7 +10,7 @@ ROUNDS ?= 25
 AR ?= ar
 NM ?= nm
 PREFIX ?= /usr/local
-PROVED_LIBRARY := target/staticlib/libengine.a
+PROVED_LIBRARY := crates/engine_c/out/libengine_c.a
 LIBRARY ?= $(PROVED_LIBRARY)
 ENGINE := build/libruschoep.a
 LINKED := $(ENGINE) build/stamp
@@ -19,7 +19,7 @@ SANITIZERS := -O1 -g -fsanitize=address,undefined -fno-sanitize-recover=all
 PEDANTIC := -Wall -Wextra -Wpedantic -Wconversion -Wsign-conversion -Werror
 SCRIPT ?= build/forecourt.script
 
-SOURCES := crates.txt $(shell find crates -name '*.rt' -o -name '*.antt')
+SOURCES := crates.txt $(shell find crates -name out -prune -o \( -name '*.rt' -o -name '*.antt' \) -print)
 ENGINE_HEADERS := $(wildcard include/*.h)
 HOST_HEADERS := $(ENGINE_HEADERS) $(wildcard host/*.h)
 SHARED_FILES := day lock message names place text totals tuned_file
@@ -90,7 +90,7 @@ help:
 	@echo '                   check-tool, check-sanitized'
 	@echo 'make bench         measure beside Lua 5.4, and write docs/PERFORMANCE.md; with BASE=FILE beside another library'
 	@echo '                   of the engine too, in turns. ROUNDS=NUMBER of each call, 25 where nothing is said'
-	@echo 'make clean         remove build/; what is proved stays in target/'
+	@echo 'make clean         remove build/; what is proved stays in crates/*/out'
 	@echo 'LIBRARY=FILE       use this library of the engine, as rt or make library made it, and prove nothing'
 
 run: all
@@ -105,13 +105,16 @@ test:
 # ---- what rt makes ----
 
 $(PROVED_LIBRARY): $(SOURCES)
-	tools/prove staticlib engine
+	tools/prove lib engine_c
 
-target/bin/print_script: $(SOURCES)
-	tools/prove check print_script
+PRINT_SCRIPT := crates/print_script/out/print_script
 
-print-script: target/bin/print_script $(SCRIPT)
-	@target/bin/print_script <$(SCRIPT)
+# rt also runs it, on nothing
+$(PRINT_SCRIPT): $(SOURCES)
+	tools/prove run print_script </dev/null
+
+print-script: $(PRINT_SCRIPT) $(SCRIPT)
+	@$(PRINT_SCRIPT) <$(SCRIPT)
 
 # ---- the library for hosts: the engine, and beside it the interface's version and the commit ----
 
