@@ -4,13 +4,13 @@ use Rattle.call_code.proofs.Laws.{checks_code, checks_not}
 use Rattle.call_code.proofs.check.Statement.{statement}
 use Rattle.call_code.proofs.check.Tie as tie
 
-returns : tie.Need-returns
+returns : tie.Need-returns-in-Passed
 returns c =
-    checks_code (rw c.before.before.lines.given.1 at c.before.before.before.before.before.judge.ensures) c.pack.ensures
+    checks_code (rw c.in-Passed.is at c.judge.ensures) c.pack.ensures
 
-returns_2 : tie.Need-returns-2
+returns_2 : tie.Need-returns-in-Refused
 returns_2 c =
-    checks_not (rw c.before.before.line.given.1 at c.before.before.before.before.before.judge.ensures) c.refused.ensures
+    checks_not (rw c.in-Refused.is at c.judge.ensures) c.refused.ensures
 
 pub check_spec : {M : Type 1} → statement M
 check_spec =

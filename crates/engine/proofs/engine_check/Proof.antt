@@ -7,27 +7,27 @@ use Rattle.engine.proofs.Laws.{check_serves, replies_refused, replies_told}
 use Rattle.engine.proofs.engine_check.Statement.{statement}
 use Rattle.engine.proofs.engine_check.Tie as tie
 
-returns : tie.Need-returns
+returns : tie.Need-returns-in-Ready
 unfolding engine_check
 returns c =
-    let a = c.before.before.before.before.before.before.before.before.before.before.before.before.before.before.before.before.before.before.before.args in
-    let loaded = c.before.before.before.before.before.before.before.before.before.before.before.before.before.load in
-    let part = c.before.before.before.before.before.before.check-words in
-    let h = subst (λ r. Loads a.file.now a.kinds.now a.operands.now r loaded.last.1.0
-    loaded.last.1.1.0) c.before.before.before.before.before.before.before.before.depth.given.1
+    let a = c.args in
+    let loaded = c.load in
+    let part = c.check_words-ended in
+    let h = subst (λ r. Loads a.file.now a.kinds.now a.operands.now r loaded.new.kinds
+    loaded.new.operands) c.in-Ready.is
     loaded.ensures in
     replies_told (check_serves a.kinds.now a.operands.now a.slots.now a.heads.now) h
-    loaded.kept.1.0 loaded.kept.1.1.0 part.result
+    loaded.auto.kinds loaded.auto.operands part.result
     (λ fs q same. (part.ensures.0 ∙ ap (λ d. checked_left d a.slots.now a.heads.now) same, part.ensures.1))
-    c.before.before.before.tell.ensures
+    c.tell.ensures
 
-returns_2 : tie.Need-returns-2
+returns_2 : tie.Need-returns-in-Refused
 unfolding engine_check
 returns_2 c =
-    let a = c.before.before.before.before.before.before.before.before.before.before.before.before.args in
-    let loaded = c.before.before.before.before.before.before.load in
-    let h = subst (λ r. Loads a.file.now a.kinds.now a.operands.now r loaded.new.1.0
-    loaded.new.1.1.0) c.before.answer.given.1 loaded.ensures in
+    let a = c.args in
+    let loaded = c.load in
+    let h = subst (λ r. Loads a.file.now a.kinds.now a.operands.now r loaded.new.kinds
+    loaded.new.operands) c.in-Refused.is loaded.ensures in
     replies_refused (check_serves a.kinds.now a.operands.now a.slots.now a.heads.now) h
 
 pub engine_check_spec : {M : Type 1} → statement M

@@ -7,7 +7,7 @@ use Rattle.engine.proofs.engine_check_code.Tie as tie
 returns : tie.Need-returns
 unfolding engine_check_code
 returns c =
-    let a = c.before.before.args in
+    let a = c.args in
     ap (λ (n : ℕ). record { answer = n; kinds = a.kinds.now; operands = a.operands.now }) c.check.ensures
 
 pub engine_check_code_spec : {M : Type 1} → statement M

@@ -14,64 +14,61 @@ use Rattle.engine.proofs.engine_deliver.Tie as tie
 
 -- ---- the code that was loaded, and its lines in the two arrays
 
-loads : (c : tie.After-lines) →
-    let a = c.before.before.before.before.before.before.before.before.before.before.before.before.before.args in
-    let code = c.before.before.before.before.before.before.load-with.new.1 in
+loads : (c : tie.In-Ready) →
+    let a = c.args in
+    let code = c.load_with.new in
     LoadsWith a.file.now a.kinds.now a.operands.now (replicate table_bytes 0)
-    (Ready c.lines.given.0.0 c.lines.given.0.1.0) code.0 code.1.0 code.1.1.0
-loads c = rw c.lines.given.1 at c.before.before.before.before.before.before.load-with.ensures
+    (Ready c.in-Ready.lines c.in-Ready.depth) code.kinds code.operands code.table
+loads c = rw c.in-Ready.is at c.load_with.ensures
 
-within : (c : tie.After-lines) →
-    let code = c.before.before.before.before.before.before.load-with.new.1 in
-    (c.lines.given.0.0 ≤ length code.0) × (c.lines.given.0.0 ≤ length code.1.0)
+within : (c : tie.In-Ready) →
+    let code = c.load_with.new in
+    (c.in-Ready.lines ≤ length code.kinds) × (c.in-Ready.lines ≤ length code.operands)
 within c =
-    let kept = c.before.before.before.before.before.before.load-with.auto.1 in
-    omega (arith, lines_fit (loads c).loads, kept.0, kept.1.0)
+    let kept = c.load_with.auto in
+    omega (arith, lines_fit (loads c).loads, kept.kinds, kept.operands)
 
-slice_reshare_prefix_deliver_words : tie.Need-slice-reshare-prefix-deliver-words
-slice_reshare_prefix_deliver_words c = (within c.before).0
+slice_reshare_prefix_deliver_words : tie.Need-slice_bounds-deliver_words-end
+slice_reshare_prefix_deliver_words c = (within c).0
 
-slice_aggregate_deliver_words : tie.Need-slice-aggregate-deliver-words
-slice_aggregate_deliver_words c = sym (length-take-le _ _ (within c.before.before).0)
+slice_aggregate_deliver_words : tie.Need-slice_bounds-deliver_words-end-in-Ready
+slice_aggregate_deliver_words c = sym (length-take-le _ _ (within c).0)
 
-slice_reshare_prefix_deliver_words_2 : tie.Need-slice-reshare-prefix-deliver-words-2
-slice_reshare_prefix_deliver_words_2 c = (within c.before.before).1
+slice_reshare_prefix_deliver_words_2 : tie.Need-slice_bounds-deliver_words-end-in-Ready-2
+slice_reshare_prefix_deliver_words_2 c = (within c).1
 
-slice_aggregate_deliver_words_2 : tie.Need-slice-aggregate-deliver-words-2
-slice_aggregate_deliver_words_2 c = sym (length-take-le _ _ (within c.before.before.before).1)
+slice_aggregate_deliver_words_2 : tie.Need-slice_bounds-deliver_words-end-in-Ready-3
+slice_aggregate_deliver_words_2 c = sym (length-take-le _ _ (within c).1)
 
-deliver_words_requires : tie.Need-deliver-words-requires
+deliver_words_requires : tie.Need-deliver_words-ended-requires
 deliver_words_requires c κs =
-    let at-lines = c.before.before.before.before.before.before in
-    let kept = at-lines.before.before.before.before.before.before.load-with.auto.1 in
-    lines_cut (loads at-lines).loads kept.0 kept.1.0
+    let at-lines = c.before.before.before in let kept = at-lines.load_with.auto in
+    lines_cut (loads at-lines).loads kept.kinds kept.operands
 
 -- ---- the ways out
 
-returns : tie.Need-returns
+returns : tie.Need-returns-in-Ready
 unfolding engine_deliver
 returns c =
-    let part = c.before.before.before.before.before.before.before.before.before.deliver-words in
-    let at-lines = c.before.before.before.before.before.before.before.before.before.before.before.before.before.before.before.before in
-    let loaded = at-lines.before.before.before.before.before.before in
-    let a = loaded.before.before.before.before.before.before.before.args in
-    let kept = loaded.load-with.kept.1 in
+    let part = c.deliver_words-ended in
+    let at-lines = c.before.before.before.before.before.before.before.before.before.before.before.before.before in let a = at-lines.args in
+    let kept = at-lines.load_with.auto in
     let h = loads at-lines in
     replies_told (deliver_serves a.kinds.now a.operands.now a.slots.now a.heads.now a.readings.now
-    a.budget) h.loads kept.0 kept.1.0 part.result
+    a.budget) h.loads kept.kinds kept.operands part.result
     (λ fs q same. let coded = h.coded fs q (omega arith) in
     part.ensures (program fs) (script_performs a.file.now fs
     (admitted_judged fs a.file.now (room a.kinds.now a.operands.now) q) coded.0 _
-    (cut_coded fs _ _ _ at-lines.lines.given.0.0 (omega (arith, lines_are h.loads fs q)) coded.1))
+    (cut_coded fs _ _ _ at-lines.in-Ready.lines (omega (arith, lines_are h.loads fs q)) coded.1))
     (same ∙ program_depth fs))
-    c.before.before.before.tell.ensures
+    c.tell.ensures
 
-returns_2 : tie.Need-returns-2
+returns_2 : tie.Need-returns-in-Refused
 unfolding engine_deliver
 returns_2 c =
-    let a = c.before.before.before.before.before.before.before.before.before.before.before.before.before.before.args in
-    let loaded = c.before.before.before.before.before.before.before.load-with in
-    let h = rw c.before.answer.given.1 at loaded.ensures.loads in
+    let a = c.args in
+    let loaded = c.load_with in
+    let h = rw c.in-Refused.is at loaded.ensures.loads in
     replies_refused (deliver_serves a.kinds.now a.operands.now a.slots.now a.heads.now
     a.readings.now a.budget) h
 

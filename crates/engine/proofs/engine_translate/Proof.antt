@@ -8,26 +8,26 @@ use Rattle.engine.proofs.Laws.{translates, translates_not, lines_fit}
 use Rattle.engine.proofs.engine_translate.Statement.{statement}
 use Rattle.engine.proofs.engine_translate.Tie as tie
 
-returns : tie.Need-returns
+returns : tie.Need-returns-in-Ready
 returns c =
-    let a = c.before.before.before.before.before.before.before.before.before.before.before.before.args in
-    let loaded = c.before.before.before.before.before.before.before.load in
-    let h = subst (λ r. Loads a.file.now a.kinds.now a.operands.now r loaded.new.1.0
-    loaded.new.1.1.0)
-    c.before.before.lines.given.1 loaded.ensures in
-    let small = packed_small {number = 0} {node = 0} {count = c.before.before.lines.given.0.0} {cells = 0}
+    let a = c.args in
+    let loaded = c.load in
+    let h = subst (λ r. Loads a.file.now a.kinds.now a.operands.now r loaded.new.kinds
+    loaded.new.operands)
+    c.in-Ready.is loaded.ensures in
+    let small = packed_small {number = 0} {node = 0} {count = c.in-Ready.lines} {cells = 0}
     (omega arith) (omega arith) (omega (arith, lines_fit h)) (omega arith) in
-    subst (λ x. Translates (engine_translate a.file.now a.kinds.now a.operands.now) x loaded.new.1.0
-    loaded.new.1.1.0)
+    subst (λ x. Translates (engine_translate a.file.now a.kinds.now a.operands.now) x loaded.new.kinds
+    loaded.new.operands)
     (sym (c.pack.ensures ∙ small)) (translates h)
 
-returns_2 : tie.Need-returns-2
+returns_2 : tie.Need-returns-in-Refused
 returns_2 c =
-    let a = c.before.before.before.before.before.before.before.before.before.before.before.args in
-    let loaded = c.before.before.before.before.before.before.load in
-    let h = subst (λ r. Loads a.file.now a.kinds.now a.operands.now r loaded.new.1.0
-    loaded.new.1.1.0)
-    c.before.answer.given.1 loaded.ensures in
+    let a = c.args in
+    let loaded = c.load in
+    let h = subst (λ r. Loads a.file.now a.kinds.now a.operands.now r loaded.new.kinds
+    loaded.new.operands)
+    c.in-Refused.is loaded.ensures in
     translates_not h
 
 pub engine_translate_spec : {M : Type 1} → statement M
