@@ -1,3 +1,2 @@
 -- The modules of `engine_demands`' specs.
 pub mod Called
-pub mod CalledCode

@@ -16,7 +16,8 @@ use Rattle.engine.proofs.engine_check_code.Kinds as K
 use Rattle.engine.proofs.engine_check_code.Reads as checking
 use Rattle.engine.proofs.engine_deliver_code.Kinds as D
 use Rattle.engine.proofs.engine_deliver_code.Reads as deliver
-use Rattle.engine_demands.specs.Called.{compiled_saving, opens_defined, delivers_defined, restores_defined}
+use Rattle.engine_demands.specs.Called.{compiled_saving}
+use Rattle.engine_demands.proofs.Called.{opens_defined, delivers_defined, restores_defined}
 
 -- a call of `engine_translate`: file and two code arrays as they were lent; the answer, and the arrays as they were
 -- left

@@ -1,0 +1,3 @@
+-- The modules of `engine_demands`' proofs.
+pub mod Called
+pub mod CalledCode
