@@ -2,6 +2,7 @@
 use Rattle.prelude.specs.Kit.{ℕ, ◌≤◌, ◌+◌, ◌<◌, ◌-◌, pred, arith, ℕ_discrete, true, false, Bool, cond, ◌&&◌, not, ◌||◌}
 use Rattle.prelude.specs.Kit.{◌≡◌, refl, ◌∙◌, sym, ap, subst, fun_ext, ⊎_elim, List, [], ◌∷◌, eqb, ltb, ℤ, length, get_or}
 use Rattle.prelude.specs.Kit.{ne_eqb, lt-ltb, eq-eqb, le-ltb, not-true, not-false, tag_of, OneOf}
+use Rattle.prelude.specs.Kit.{set, length-set}
 use Rattle.semantics.specs.Basics.{updated}
 use Rattle.semantics.specs.Outcome.{Outcome, done, stop, onward, require}
 use Rattle.semantics.specs.Kinds.{Borrowing, picked}
@@ -16,6 +17,7 @@ use Rattle.machine_code.specs.declared.Line.{Line}
 use Rattle.machine_code.specs.declared.Line.TheVariants as L
 use Rattle.machine_code.specs.contracts.Line.{the_type}
 use Rattle.lent_counts.specs.Counted.{counted}
+use Rattle.lent_counts.proofs.Laws.{minus_in}
 use Rattle.lent_atoms.specs.Told.{meant, told}
 use Rattle.lent_hold_lines.specs.declared.Walked.{Walked}
 use Rattle.lent_hold_lines.specs.Lines.{waiting, Passed, Ended, asked, is_read, atoms_from, read_at, index_at}
@@ -174,14 +176,28 @@ module _ (x : ℕ) (B P : Set) (l : List ℕ) (p : ℕ) where
   retain_yes r h e = rw (sym h ∙ not-false r e) refl
 
 module _ (x : ℕ) (l : List ℕ) (p : ℕ) where
-  pub release_no : get_or l x 0 ≡ 0 → release_at x (counted l) p ≡ stop 29 p
+  release_no : get_or l x 0 ≡ 0 → release_at x (counted l) p ≡ stop 29 p
   unfolding release_at onward require
   release_no e = rw (le-ltb 0 (get_or l x 0) (omega (arith, e))) refl
 
-  pub release_yes : (get_or l x 0 ≡ 0 → ⊥) →
+  release_yes : 0 < get_or l x 0 →
       release_at x (counted l) p ≡ done (record { holds = minus x (counted l); pending = empty }) (p + 1)
   unfolding release_at onward require
-  release_yes f = rw (lt-ltb 0 (get_or l x 0) (omega (arith, f))) refl
+  release_yes f = rw (lt-ltb 0 (get_or l x 0) f) refl
+
+  pub release_stops : (r : Walked) → r ≡ fault_at p → length l ≡ 256 → get_or l x 0 ≡ 0 →
+      Passed (release_at x (counted l) p) r l
+  release_stops r e long h = lined_fault r p l long e (release_no h)
+
+  pub release_passes : (r : Walked) (v : ℕ) → r ≡ pass_to (p + 1) → length l ≡ 256 → x < 256 → v + 1 ≡ get_or l x 0 →
+      Passed (release_at x (counted l) p) r (set l x v)
+  release_passes r v e long h f =
+      lined_fine r (p + 1) (set l x v) (simp length-set long) (minus x (counted l)) e
+      (minus_in l x (omega (arith, h, long)) v (omega (arith, f)))
+      (release_yes (omega (arith, f)))
+
+-- the laws of a release
+pub ruleset release_laws = (release_stops, release_passes, length-set)
 
 module _ (Γ : NameDepths) (a : C.Atom) (H : Holds) (ends : Holds → Bool) (p : ℕ) (r : Bool) (l : List ℕ)
     (spent : spend Γ (a ∷ []) H ≡ told r l) where

@@ -189,6 +189,7 @@ fn walk_retain(at: usize, x: u8, wait: u16, lent: &[bool; 256], holds: &mut [u16
 }
 
 // A name is released: it holds one.
+#[tactic(auto, using(crate::proofs::Ways::release_laws))]
 fn walk_release(at: usize, x: u8, holds: &mut [u16; 256]) -> Walked
     requires { (at < 4096) × (length holds.old ≡ 256) }
     ensures { Passed (release_at x (counted holds.old) at)
