@@ -1,13 +1,13 @@
 -- The parts of a loop.
 use Rattle.prelude.specs.Kit.{ℕ, ◌<◌, ◌-◌, pred, arith, ℕ_discrete, true, false, Bool, cond, ◌&&◌, ◌||◌, ◌≡◌, refl, sym}
 use Rattle.prelude.specs.Kit.{fun_ext, List, [], ◌∷◌, eqb, ℤ, length, get_or, set, get_or-set_other, get_or-set_same, ne_eqb}
-use Rattle.prelude.specs.Kit.{eq-eqb, tag_of, OneOf, miss}
+use Rattle.prelude.specs.Kit.{eq-eqb, length-set, tag_of, OneOf, miss}
 use Rattle.semantics.specs.Basics.{updated}
 use Rattle.semantics.specs.Kinds.{loop_reads, carried_name}
 use Rattle.semantics.specs.Code as C
 use Rattle.semantics.specs.Live.{Set, among}
 use Rattle.semantics.specs.Annotate.{NameDepths, is_array}
-use Rattle.semantics_lent.specs.Hold.{Holds, spend, readable, set_aside, lending, hold_all}
+use Rattle.semantics_lent.specs.Hold.{Holds, minus, spend, readable, set_aside, lending, hold_all}
 use Rattle.machine_code.specs.declared.Loop.{Loop}
 use Rattle.machine_code.specs.declared.Loop.TheVariants as P
 use Rattle.machine_code.specs.contracts.Loop.{the_type}
@@ -55,29 +55,20 @@ module _ (Γ : NameDepths) (l : List Bool) where
 
 -- ---- held
 
-module _ (Γ : NameDepths) (B : Set) (l : List ℕ) where
-  pub aside_number : (z : ℤ) → counted l ≡ set_aside Γ B (C.number z ∷ []) (counted l)
-  aside_number z = refl
+module _ (l : List ℕ) (x : ℕ) where
+  pub none_less : get_or l x 0 ≡ 0 → minus x (counted l) ≡ counted l
+  unfolding updated
+  none_less z = fun_ext (λ n. go n (ℕ_discrete x n))
+    where
+      go : (n : ℕ) → Dec (x ≡ n) → cond (eqb x n) (pred (get_or l x 0)) (get_or l n 0) ≡ get_or l n 0
+      go n (yes p) = rw (← p, eq-eqb x x refl, z) refl
+      go n (no f) = rw (ne_eqb x n f) refl
 
-  module _ (x : ℕ) where
-    pub aside_not : is_array Γ x ≡ false → counted l ≡ set_aside Γ B (C.name x ∷ []) (counted l)
-    aside_not e = rw e refl
+  pub one_less : 0 < get_or l x 0 → x < length l → minus x (counted l) ≡ counted (set l x (get_or l x 0 - 1))
+  one_less z h = sym (minus_in l x h (get_or l x 0 - 1) (omega (arith, z)))
 
-    pub aside_lent : is_array Γ x ≡ true → B x ≡ true → counted l ≡ set_aside Γ B (C.name x ∷ []) (counted l)
-    aside_lent e f = rw (e, f) refl
-
-    pub aside_none : is_array Γ x ≡ true → B x ≡ false → get_or l x 0 ≡ 0 →
-        counted l ≡ set_aside Γ B (C.name x ∷ []) (counted l)
-    unfolding updated
-    aside_none e f z = rw (e, f) (fun_ext (λ n. go n (ℕ_discrete x n)))
-      where
-        go : (n : ℕ) → Dec (x ≡ n) → get_or l n 0 ≡ cond (eqb x n) (pred (get_or l x 0)) (get_or l n 0)
-        go n (yes p) = rw (← p, eq-eqb x x refl, z) refl
-        go n (no g) = rw (ne_eqb x n g) refl
-
-    pub aside_some : is_array Γ x ≡ true → B x ≡ false → 0 < get_or l x 0 → x < length l →
-        counted (set l x (get_or l x 0 - 1)) ≡ set_aside Γ B (C.name x ∷ []) (counted l)
-    aside_some e f z h = rw (e, f) (minus_in l x h (get_or l x 0 - 1) (omega (arith, z)))
+-- the laws of a hold that is set aside
+pub ruleset aside_laws = (none_less, one_less, length-set)
 
 -- ---- by the loop
 

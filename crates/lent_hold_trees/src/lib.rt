@@ -85,6 +85,7 @@ fn lent_inside(table: &[u8], f: u8, lent: &[bool; 256], a: Atom) -> [bool; 256]
 }
 
 // The holds around the tree of a loop over an array: one of the array's is set aside, if it is not lent already.
+#[tactic(auto, using(crate::proofs::Loops::aside_laws))]
 fn held_outside(table: &[u8], f: u8, lent: &[bool; 256], a: Atom, holds: &[u16; 256]) -> [u16; 256]
     requires { (length lent.now ≡ 256) × (length holds.now ≡ 256) }
     ensures { (counted result ≡ set_aside (depths table.now f) (set_of lent.now) (meant a ∷ [])
