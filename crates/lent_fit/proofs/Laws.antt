@@ -313,6 +313,9 @@ module _ (O : List ℤ) (d : ℕ) where
     pub main_result : second_at O 2 ≡ 1 → Main (eqb (second_at O 0) d)
     main_result g = sym (main_depths e ∙ rw (eq-eqb (second_at O 1) d f, eq-eqb (second_at O 2) 1 g) refl)
 
+-- the laws of main's shape
+pub ruleset main_laws = (main_count, main_first, main_second, main_result)
+
 module _ (K : List ℕ) (O : List ℤ) (st : List ℕ) (d n : ℕ) (t : List ℕ) where
   pub code_stops : is_main d (signature_at O 0) ≡ false → Told (code_fits K O st d n) (Bad 0) t t
   unfolding code_fits

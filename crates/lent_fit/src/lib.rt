@@ -125,6 +125,7 @@ fn fit_functions(
 // ---- the code
 
 // Whether main, at line 0, has the shape for totals of depth d.
+#[tactic(auto, using(crate::proofs::Laws::main_laws))]
 fn is_main(operands: &[i64], d: u64) -> bool
     ensures { result ≡ is_main d (signature_at operands.now 0) }
 {
