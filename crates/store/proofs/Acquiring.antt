@@ -1,6 +1,6 @@
 -- Acquiring a cell: a law for each way out of the code.
 use Rattle.prelude.specs.Kit.{ℕ, ◌≤◌, ◌+◌, ◌<◌, ◌-◌, ◌*◌, arith, true, false, Bool, ◌≡◌, refl, ◌∙◌, sym, ap, List, []}
-use Rattle.prelude.specs.Kit.{ℤ, get_or, length-set, lt-ltb, le-ltb, ltb-true}
+use Rattle.prelude.specs.Kit.{ℤ, length, get_or, length-set, lt-ltb, le-ltb, ltb-true}
 use Rattle.semantics.specs.Outcome.{Outcome, done, stop}
 use Rattle.semantics.specs.Store.{Store, cell, cell_count, with_first, with_cell, has_free, filled, acquired}
 use Rattle.semantics.specs.Store.{free_cells}
@@ -60,6 +60,25 @@ module _ (slots : List ℤ) (heads : List ℕ) where
   unfolding next_cell acquired
   none_acquired depth free words h = (sym (rw (first_out h) refl), sym (rw (first_out h) refl))
 
+  -- where the heads have no word, no cell is free
+  module _ (e : length heads ≡ 0) where
+    none_in_empty : has_free (store_of slots heads) ≡ false
+    unfolding cells_in
+    none_in_empty = first_out (omega arith)
+
+    pub first_of_empty : (left : ℕ) → first_cell (store_of slots heads) left ≡ stop 25 tt
+    unfolding first_cell
+    first_of_empty left = rw none_in_empty refl
+
+    pub next_of_empty : (free : ℕ) → next_cell free (store_of slots heads) ≡ stop 25 tt
+    unfolding next_cell
+    next_of_empty free = rw none_in_empty refl
+
+    pub acquired_of_empty : (depth : ℕ) (words : List ℤ) → acquired depth words (store_of slots heads)
+        ≡ store_of slots heads
+    unfolding acquired
+    acquired_of_empty depth words = rw none_in_empty refl
+
   pub one_acquired : (depth free : ℕ) {slots' : List ℤ} {heads' : List ℕ} →
       Written slots heads (get_or heads 0 0) (get_or heads (4 + 4 * get_or heads 0 0) 0) 1 0 depth 0 slots' heads' →
       get_or heads 0 0 < cells_in slots heads →
@@ -70,3 +89,6 @@ module _ (slots : List ℤ) (heads : List ℕ) where
     sym (rw (first_in h, first_is slots heads) refl),
     sym (rw (first_in h, first_is slots heads, next_is slots heads (get_or heads 0 0) h) (sym (written_store w h))),
   )
+
+-- what an acquire answers and leaves where the heads have no word
+pub ruleset of_empty = (first_of_empty, next_of_empty, acquired_of_empty)

@@ -35,6 +35,7 @@ fn one_fewer(free: u32) -> u32
 }
 
 // Acquires the free list's first cell, with no elements; so many cells were free.
+#[tactic(auto, using(crate::proofs::Acquiring::of_empty))]
 pub fn acquire_empty(slots: &mut [i64], heads: &mut [u32], depth: u32, free: u32) -> Acquired
     ensures { (acquired_outcome result ≡ next_cell free (store_of slots.old heads.old))
         × (store_of slots.new heads.new
