@@ -1,12 +1,14 @@
 -- The ways out of saving totals: too many entries, no room, and the file.
 use Rattle.prelude.specs.Kit.{ℕ, ◌≤◌, ◌+◌, ◌<◌, ◌-◌, ◌*◌, ◌%◌, min, ◌/◌, arith, true, false, and-false, ◌≡◌, refl, ◌∙◌}
 use Rattle.prelude.specs.Kit.{sym, ap, List, [], ◌∷◌, ◌++◌, append_assoc, leb, ℤ, pos, length, get_or, set}
-use Rattle.prelude.specs.Kit.{length-replicate, replicate-append-replicate, sets, le-leb, lt-leb}
+use Rattle.prelude.specs.Kit.{length-replicate, replicate-append-replicate, sets, le-leb, lt-leb, to_z-of_z}
+use Rattle.prelude.specs.Kit.{w64, to_z, of_z, SFits}
 use Rattle.semantics.specs.Store.{Store}
 use Rattle.semantics.specs.Words.{store_of}
 use Rattle.semantics.specs.Saved.{Entry, entries, entry_count, low_bytes, marks, number_bytes, file_bytes, saved_bytes}
 use Rattle.semantics.specs.Saved.{saved_length, save_fits}
 use Rattle.semantics.specs.SaveCalls.{totals_value, in_buffer}
+use Rattle.clearing.proofs.Clearing.{cleared_whole}
 use Rattle.laws.specs.SavedFiles.{file_length}
 use Rattle.saved_write.specs.Writing.{entries_at, Written, written, put_entries, saving, totals_saved}
 use Rattle.saved_write.proofs.Whole.{blanks, entries_value, all_put}
@@ -50,6 +52,17 @@ pub record Begun (d : ℕ) (slots : List ℤ) (heads buffer : List ℕ) (w : ℤ
   pub counted : k ≡ min 4097 (0 + length (entries_at (store_of slots heads) d w))
   pub clear : cleared ≡ blanks (length buffer)
 
+-- the same by what the calls ensure, where the word is passed on by its bits
+pub begins : {d : ℕ} {slots : List ℤ} {heads buffer : List ℕ} {w : ℤ} {k : ℕ} {cleared : List ℕ} →
+    w ≡ get_or slots 0 (pos 0) → SFits w64 w →
+    k ≡ min 4097 (0 + length (entries_at (store_of slots heads) d (to_z w64 (of_z w64 w)))) →
+    cleared ≡ blanks (length buffer - 0) → Begun d slots heads buffer w k cleared
+begins {w = w} e f g h = record {
+  totals = e;
+  counted = rw (to_z-of_z {z = w} f) at g;
+  clear = h ∙ cleared_whole _ 0;
+}
+
 module _ {d : ℕ} {slots : List ℤ} {heads buffer : List ℕ} {w : ℤ} {k : ℕ} {cleared : List ℕ}
     (begun : Begun d slots heads buffer w k cleared) where
   abbrev σ : Store
@@ -69,20 +82,16 @@ module _ {d : ℕ} {slots : List ℤ} {heads buffer : List ℕ} {w : ℤ} {k : �
   unfolding totals_saved
   refused e = rw e (ap (saving false) begun.clear)
 
-  pub many : 4096 < k → saving false cleared ≡ totals_saved d σ buffer
+  pub narrow : length cleared < 3 + 9 * k → saving false cleared ≡ totals_saved d σ buffer
   unfolding save_fits
-  many h = refused (rw (lt-leb count 4096 (omega (arith, h, begun.counted, count_is))) refl)
+  narrow h =
+      let short : length buffer < saved_length count =
+      omega (arith, h, ap length begun.clear, length-replicate {A = ℕ} (length buffer) 0, begun.counted, count_is) in
+      refused (rw (lt-leb (saved_length count) (length buffer) short) (and-false (leb count 4096)))
 
   module _ (few : k ≤ 4096) where
     counts : k ≡ count
     counts = omega (arith, few, begun.counted, count_is)
-
-    pub narrow : length cleared < 3 + 9 * k → saving false cleared ≡ totals_saved d σ buffer
-    unfolding save_fits
-    narrow h =
-        let short : length buffer < saved_length count =
-        omega (arith, h, ap length begun.clear, length-replicate {A = ℕ} (length buffer) 0, counts) in
-        refused (rw (lt-leb (saved_length count) (length buffer) short) (and-false (leb count 4096)))
 
     module _ (long : 3 + 9 * k ≤ length cleared) (one two r : List ℕ) (q : ℕ) (p : one ≡ set cleared 0 d)
         (o : two ≡ sets one 1 (low_bytes 2 k))
@@ -113,3 +122,16 @@ module _ {d : ℕ} {slots : List ℤ} {heads buffer : List ℕ} {w : ℤ} {k : �
       pub saves : saving true r ≡ totals_saved d σ buffer
       unfolding totals_saved
       saves = rw fits (ap (λ (s : Written). saving true s.bytes) whole)
+
+-- more entries than a file has
+module _ (d : ℕ) (slots : List ℤ) (heads buffer : List ℕ) where
+  pub many : 4096 < length (entries_at (store_of slots heads) d (get_or slots 0 (pos 0))) →
+      totals_saved d (store_of slots heads) buffer ≡ saving false (blanks (length buffer))
+  unfolding totals_saved save_fits store_of
+  many h =
+      let σ : Store = store_of slots heads in
+      let e : entry_count (totals_value d σ) ≡ length (entries_at σ d σ.totals) =
+      ap length (entries_value σ d σ.totals) in
+      rw (lt-leb (entry_count (totals_value d σ)) 4096 (omega (arith, h, e))) refl
+
+pub ruleset too_many = (many, to_z-of_z)

@@ -115,6 +115,7 @@ fn write_value(
 
 // The file of the totals of a depth, at the front of a buffer and zero past it; false where it has no room, or the
 // entries are too many, and the buffer is all zero.
+#[tactic(auto, using(crate::proofs::Saving::too_many))]
 pub fn write_totals(slots: &[i64], heads: &[u32], saved: &mut [u8], depth: u32) -> bool
     requires { depth ≤ 4 }
     ensures { saving result saved.new
