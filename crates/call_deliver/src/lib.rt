@@ -10,6 +10,7 @@ use call_store::Ended;
 use machine_code::TABLE_BYTES;
 
 // Whether there are at most 16 readings and 1,000,000 steps.
+#[tactic(auto, unfolding(semantics::specs::Calls::request_fits))]
 fn request_fits(readings: &[i64], budget: u64) -> bool
     ensures { result ≡ request_fits readings.now budget }
 {
