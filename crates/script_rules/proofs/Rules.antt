@@ -2,7 +2,7 @@
 use Rattle.prelude.specs.Kit.{ℕ, ◌≤◌, ◌+◌, ◌<◌, ◌-◌, suc, zero, arith, add-one, true, false, Bool, cond, ◌&&◌, ◌≡◌}
 use Rattle.prelude.specs.Kit.{refl, ◌∙◌, sym, ap, inl, Option, List, [], ◌∷◌, eqb, length, get_or, take, drop}
 use Rattle.prelude.specs.Kit.{length-take, drop_of_length-le, drop-cons, get_or-take, ne_eqb, lt-ltb, eq-eqb, le-ltb}
-use Rattle.prelude.specs.Kit.{eqb-true, le-leb, lt-leb}
+use Rattle.prelude.specs.Kit.{eqb-true}
 use Rattle.semantics.specs.Outcome.{Outcome, done, stop}
 use Rattle.semantics.specs.File.{at_function, at_parameter, part_count, part_counts, low_limits, high_limits}
 use Rattle.semantics.specs.Types.{Signature, all_are, same, some_if, index_rule, length_rule, replicate_rule, if_rule}
@@ -12,7 +12,7 @@ use Rattle.script_read.proofs.Limits.{NoneOf, few}
 use Rattle.script_read.proofs.Nodes.{node_says, past, unfit, low_none, high_none}
 use Rattle.script_rules.specs.declared.Judged.{Judged}
 use Rattle.script_rules.specs.declared.Judged.TheVariants.{Has, Broken}
-use Rattle.script_rules.specs.Rules.{depths_from, signature_at, there, called, rule_of, array_rule}
+use Rattle.script_rules.specs.Rules.{depths_from, signature_at, there, called, rule_of}
 use Rattle.script_rules.specs.Rules.{judged_outcome, rule_outcome}
 
 -- all of the first n depths are d
@@ -196,13 +196,7 @@ pub length_good : (a : ℕ) → (a ≡ 0 → ⊥) → done 0 tt ≡ rule_outcome
 length_good zero f = absurd (f refl)
 length_good (suc a) f = refl
 
--- an array's depth by its elements'
-pub array_good : (d : ℕ) → d < 4 → done (d + 1) tt ≡ rule_outcome (array_rule d)
-array_good d h = rw (le-leb (suc d) 4 (omega arith), add-one)
-
-pub array_deep : (d : ℕ) → 4 ≤ d → stop 7 tt ≡ rule_outcome (array_rule d)
-array_deep d h = rw (lt-leb (suc d) 4 (omega arith))
-
+-- a replicate's count is a number
 pub replicate_bad : (a b : ℕ) → (a ≡ 0 → ⊥) → stop 7 tt ≡ rule_outcome (replicate_rule (a ∷ b ∷ []))
 replicate_bad zero b f = absurd (f refl)
 replicate_bad (suc a) b f = refl
