@@ -1,16 +1,18 @@
--- The ways out of a function and a script, in the terms of the code.
-use Rattle.prelude.specs.Kit.{ℕ, ◌+◌, ◌<◌, ◌-◌, arith, true, false, Bool, ◌&&◌, and-true, ◌≡◌, ◌∙◌, sym, ap, ◌⊎◌}
-use Rattle.prelude.specs.Kit.{⊎_elim, List, [], ◌∷◌, eqb, length, get_or, set, replicate, ne_eqb, eq-eqb}
-use Rattle.semantics.specs.Outcome.{done, stop}
+-- The turns over parameters and the ways out of a function and a script, in the terms of the code.
+use Rattle.prelude.specs.Kit.{ℕ, ◌≤◌, ◌+◌, ◌<◌, ◌-◌, arith, true, false, Bool, cond, ◌&&◌, and-true, ◌≡◌, refl, ◌∙◌}
+use Rattle.prelude.specs.Kit.{sym, ap, ◌⊎◌, ⊎_elim, List, [], ◌∷◌, eqb, leb, leb-true, length, length-set, get_or, set}
+use Rattle.prelude.specs.Kit.{replicate, ne_eqb, eq-eqb}
+use Rattle.semantics.specs.Outcome.{Outcome, done, stop}
 use Rattle.semantics.specs.File as S
-use Rattle.semantics.specs.File.{at_function, at_parameter, look, node_at}
+use Rattle.semantics.specs.File.{at_function, at_parameter, low_limits, look, looked, node_at}
 use Rattle.semantics.specs.Types.{main_shape}
-use Rattle.script_read.specs.Told.{node_outcome, parted, low_at, high_at, repeated}
+use Rattle.script_read.specs.Told.{Parted, node_outcome, parted, low_at, high_at, repeated}
 use Rattle.script_read.specs.declared.Node.{Node}
 use Rattle.script_read.specs.declared.Node.TheVariants.{WrongKind, WrongOperand}
 use Rattle.script_read.specs.declared.Read.{Read}
 use Rattle.script_read.specs.declared.Read.TheVariants.{Next, Refused}
-use Rattle.script_read.proofs.Nodes.{Seen, unfit}
+use Rattle.script_read.proofs.Limits.{entry_passes}
+use Rattle.script_read.proofs.Nodes.{Seen, unfit, head_fits, node_says, past}
 use Rattle.script_read.proofs.Turns.{less_one}
 use Rattle.script_read.proofs.Tables.{table_set, table_fresh}
 use Rattle.script_depths.proofs.Laws.{entry}
@@ -39,40 +41,48 @@ module _ (k w : List ℕ) (c : ℕ) (ce : c ≡ low_at k w at_function 0) where
     pub by_second : a ≡ r → (b : ℕ) → b ≡ high_at k w at_parameter 2 → eqb b 1 ≡ main_shape (signature_at k w 0)
     by_second h b be = sym (two_parameters ∙ rw (eq-eqb a r h, ← be) (and-true (eqb b 1)))
 
+-- the low part of an operand is at most 255, whatever the kind
+low_limit : (k : ℕ) → get_or low_limits k 0 ≤ 255
+low_limit k = leb-true _ 255 (entry_passes (λ i v. leb v 255) 0 (λ i. refl) low_limits refl k)
+
+-- looking past the nodes halts
+pub past_nodes : (k w : List ℕ) (place : S.Place) (p : ℕ) → length k ≤ p → parted (look k w place p) ≡ stop 3 p
+past_nodes k w place p h = sym (node_says k w place p WrongKind (past k w place p h))
+
 module _ (k w s : List ℕ) where
   from_step : (c : ℕ) (γ : ℕ → ℕ) (p : ℕ) → 0 < c →
       known_from k w s c γ p ≡ typed_parameter fresh_name (known_from k w s (c - 1)) γ p (node_at k w at_parameter p)
   unfolding known_from
   from_step c γ p h = ap (λ (n : ℕ). known_from k w s n γ p) (less_one c (omega arith))
 
-  -- c parameters are left, from node p on; the whole gives r
-  module _ (r : Walked) (c p : ℕ) (t : List ℕ) (inv : r ≡ known_from k w s c (depths t) p) (h : 0 < c) where
-    pub parameter_goes : {x y z : ℕ} → Seen k w at_parameter p x y z → length t ≡ 256 → y < 256 → get_or t y 0 ≡ 255 →
-        r ≡ known_from k w s (c - 1) (depths (set t y z)) (p + 1)
-    parameter_goes {x} {y} {z} n l b u =
-        inv ∙ from_step c (depths t) p h
-        ∙ ap (λ (v : S.Node). typed_parameter fresh_name (known_from k w s (c - 1)) (depths t) p v) n.stands
-        ∙ rw (n.same_low, n.same_high, entry t y l b, eq-eqb (get_or t y 0) 255 u, table_set 255 t y z (omega arith))
+  -- c parameters are left, from node p on; the first by what looking at its node tells
+  abbrev pub turned : ℕ → ℕ → List ℕ → Outcome ℕ Parted → Walked
+  turned c p t (done r q) = cond (eqb (get_or t r.low 0) 255)
+      (known_from k w s (c - 1) (depths (set t r.low r.high)) (p + 1)) (stop 7 p)
+  turned c p t (stop n q) = stop 7 p
 
-    pub parameter_again : {x y z : ℕ} → Seen k w at_parameter p x y z → length t ≡ 256 → y < 256 →
-        (get_or t y 0 ≡ 255 → ⊥) → stop 7 p ≡ r
-    parameter_again {x} {y} {z} n l b u =
-        sym (inv ∙ from_step c (depths t) p h
-        ∙ ap (λ (v : S.Node). typed_parameter fresh_name (known_from k w s (c - 1)) (depths t) p v) n.stands
-        ∙ rw (n.same_low, entry t y l b, ne_eqb (get_or t y 0) 255 u))
+  pub turn : (c p : ℕ) (t : List ℕ) → 0 < c → length t ≡ 256 →
+      known_from k w s c (depths t) p ≡ turned c p t (parted (look k w at_parameter p))
+  unfolding look
+  turn c p t h l = from_step c (depths t) p h ∙ go (node_at k w at_parameter p) refl
+    where
+      go : (v : S.Node) → node_at k w at_parameter p ≡ v →
+          typed_parameter fresh_name (known_from k w s (c - 1)) (depths t) p v ≡ turned c p t (parted (looked v p))
+      go (S.fits h) e =
+          let f = head_fits k w at_parameter p h e in
+          let b : h.low < 256 = omega (arith, low_limit h.kind, f.low) in
+          rw (entry t h.low l b, table_set 255 t h.low h.high (omega arith))
+      go S.wrong_kind e = refl
+      go S.wrong_operand e = refl
 
-    pub parameter_none : (n : Node) → node_outcome n p ≡ parted (look k w at_parameter p) →
-        (n ≡ WrongKind) ⊎ (n ≡ WrongOperand) →
-        stop 7 p ≡ r
-    parameter_none n e f =
-        sym (inv ∙ from_step c (depths t) p h
-        ∙ ⊎_elim (λ g. rw g) (λ g. rw g) (unfit k w at_parameter p n e f).is)
-
-  pub body_next : (r : Walked) (c : ℕ) (γ : ℕ → ℕ) (p : ℕ) → c ≡ 0 → r ≡ known_types k w s 64 γ p →
-      r ≡ known_from k w s c γ p
+  pub body_next : (c : ℕ) (γ : ℕ → ℕ) (p : ℕ) → c ≡ 0 → known_from k w s c γ p ≡ known_types k w s 64 γ p
   unfolding known_from
-  body_next r c γ p e f = rw e f
+  body_next c γ p e = rw e
 
+-- what the loop over the parameters goes by: a turn, its end, where the nodes end, the table's length
+pub ruleset turns = (turn, body_next, past_nodes, length-set)
+
+module _ (k w s : List ℕ) where
   -- a function
   module _ {p x y z : ℕ} (n : Seen k w at_function p x y z) (b : Walked)
       (be : b ≡ known_from k w s y (depths (replicate 256 255)) (p + 1)) where

@@ -25,6 +25,7 @@ fn main_fits(kinds: &[u8], operands: &[u8]) -> bool
 }
 
 // So many parameters, whose depths go into the table, and then the body. No two have one name.
+#[tactic(auto, using(crate::proofs::Laws::turns))]
 fn type_parameters(
     kinds: &[u8],
     operands: &[u8],
