@@ -18,6 +18,14 @@ module _ (n least : ℕ) (env : List ℤ) (e : least ≡ lowest_of env) where
   unfolding noted
   noted_higher h = rw (le-ltb n (lowest_of env) (omega (arith, e))) refl
 
+  -- so of the words that are put there
+  pub noted_below : n < 2 ^ 63 → n < least →
+      set (set env level_place (to_z w64 n)) lowest_place (to_z w64 n) ≡ noted n env
+  noted_below b h = rw (lt-ltb n (2 ^ 63) b) (noted_lower h)
+
+  pub noted_above : n < 2 ^ 63 → least ≤ n → set env level_place (to_z w64 n) ≡ noted n env
+  noted_above b h = rw (lt-ltb n (2 ^ 63) b) (noted_higher h)
+
 pub raised_by : (n k : ℕ) (env : List ℤ) → n ≡ level_of env → n + k < 2 ^ 63 →
     set env level_place (to_z w64 (n + k)) ≡ raised k env
 unfolding raised
