@@ -26,58 +26,50 @@ read c kind b k e =
     c.low_bits-n.ensures)
     first.ensures e
 
-returns_2 : tie.Need-returns-then-kind-lt7
-returns_2 c =
-    let n = c.low_bits-n in
-    let first = c.atom_within-a in
-    operation_of_kind _ n.result first.result c.atom_at.result
-    (kind_below_7 _ (omega (arith, c.if-kind-lt7.true)))
-    ∙ read c.before.before _ c.atom_at.result refl c.atom_at.ensures
+returns_2 : tie.Need-returns-in-8
+returns_2 c = read c.before.before 8 _ (sym c.in-8.is) refl
 
-returns_3 : tie.Need-returns-in-8
-returns_3 c = read c.before.before 8 _ (sym c.in-8.is) refl
+returns_3 : tie.Need-returns-in-9
+returns_3 c = read c.before.before 9 _ (sym c.in-9.is) refl
 
-returns_4 : tie.Need-returns-in-9
-returns_4 c = read c.before.before 9 _ (sym c.in-9.is) refl
-
-returns_5 : tie.Need-returns-in-10
-returns_5 c =
+returns_4 : tie.Need-returns-in-10
+returns_4 c =
     read c.before.before.before 10 c.atom_at-in-10.result (sym c.in-10.is) c.atom_at-in-10.ensures
 
-returns_6 : tie.Need-returns-in-11
-returns_6 c = read c.before.before 11 _ (sym c.in-11.is) refl
+returns_5 : tie.Need-returns-in-11
+returns_5 c = read c.before.before 11 _ (sym c.in-11.is) refl
 
-returns_7 : tie.Need-returns-in-12
-returns_7 c = read c.before.before 12 _ (sym c.in-12.is) refl
+returns_6 : tie.Need-returns-in-12
+returns_6 c = read c.before.before 12 _ (sym c.in-12.is) refl
 
-returns_8 : tie.Need-returns-in-13
-returns_8 c = read c.before.before 13 _ (sym c.in-13.is) refl
+returns_7 : tie.Need-returns-in-13
+returns_7 c = read c.before.before 13 _ (sym c.in-13.is) refl
 
-returns_9 : tie.Need-returns-in-14
-returns_9 c = read c.before.before 14 _ (sym c.in-14.is) refl
+returns_8 : tie.Need-returns-in-14
+returns_8 c = read c.before.before 14 _ (sym c.in-14.is) refl
 
-returns_10 : tie.Need-returns-in-15
-returns_10 c = read c.before.before 15 _ (sym c.in-15.is) refl
+returns_9 : tie.Need-returns-in-15
+returns_9 c = read c.before.before 15 _ (sym c.in-15.is) refl
 
-returns_11 : tie.Need-returns-in-17
-returns_11 c = read c.before.before 17 _ (sym c.in-17.is) refl
+returns_10 : tie.Need-returns-in-17
+returns_10 c = read c.before.before 17 _ (sym c.in-17.is) refl
 
-returns_12 : tie.Need-returns-in-18
-returns_12 c =
+returns_11 : tie.Need-returns-in-18
+returns_11 c =
     read c.before.before.before 18 c.atom_at-in-18.result (sym c.in-18.is) c.atom_at-in-18.ensures
 
-returns_13 : tie.Need-returns-in-19
-returns_13 c = read c.before.before 19 _ (sym c.in-19.is) refl
+returns_12 : tie.Need-returns-in-19
+returns_12 c = read c.before.before 19 _ (sym c.in-19.is) refl
 
-returns_14 : tie.Need-returns-in-20
-returns_14 c =
+returns_13 : tie.Need-returns-in-20
+returns_13 c =
     read c.before.before.before 20 c.atom_at-in-20.result (sym c.in-20.is) c.atom_at-in-20.ensures
 
-returns_15 : tie.Need-returns-in-21
-returns_15 c = read c.before.before 21 _ (sym c.in-21.is) refl
+returns_14 : tie.Need-returns-in-21
+returns_14 c = read c.before.before 21 _ (sym c.in-21.is) refl
 
-returns_16 : tie.Need-returns-in_default
-returns_16 c =
+returns_15 : tie.Need-returns-in_default
+returns_15 c =
     let n = c.low_bits-n in
     let first = c.atom_within-a in
     let r = c.in_default.in_default-own.rest in
@@ -104,7 +96,9 @@ line_at_spec =
     tie.close
     (tie.spec (λ c. search rules) (λ c. search rules) (λ c κs. search rules) returns (λ c. search rules)
     (λ c. search rules) (λ c κs. search rules) (λ c. search rules) (λ c. search rules) (λ c κs. search rules)
-    returns_2 (λ c. search rules) (λ c. search rules) (λ c. search rules) (λ c κs. search rules)
+    (λ c. operation_of_kind _ c.low_bits-n.result c.atom_within-a.result c.atom_at.result
+    (kind_below_7 _ (omega arith)) ∙ read c.before.before _ c.atom_at.result refl c.atom_at.ensures)
+    (λ c. search rules) (λ c. search rules) (λ c. search rules) (λ c κs. search rules)
     (λ c. search rules) (λ c κs. search rules) (λ c. search rules) (λ c. search rules) (λ c κs. search rules)
-    (λ c. search rules) (λ c κs. search rules) returns_3 returns_4 returns_5 returns_6 returns_7 returns_8
-    returns_9 returns_10 returns_11 returns_12 returns_13 returns_14 returns_15 returns_16)
+    (λ c. search rules) (λ c κs. search rules) returns_2 returns_3 returns_4 returns_5 returns_6 returns_7
+    returns_8 returns_9 returns_10 returns_11 returns_12 returns_13 returns_14 returns_15)

@@ -108,39 +108,27 @@ ends c k e =
     tree.result tree.new.slots tree.new.heads tree.new.env tree.ensures
     c.lowest-lowest.result c.lowest-lowest.ensures.0
 
-same_length_2 : tie.Need-shape_of-heads-then-stop-eq0
-same_length_2 c =
-    c.release_totals.auto.heads ∙ c.work_tree-r.auto.heads
-    ∙ c.retain_totals.auto.heads
-
-returns : tie.Need-returns-then-stop-eq0
-returns c =
-    let at-lowest = c.before.before.before.before.before.before.before.before.before.before.before in let a = at-lowest.args in
-    let tree = at-lowest.work_tree-r in
-    let slots = tree.new.slots in
-    let heads = tree.new.heads in
-    let released = c.release_totals in
-    λ k e. main_goes slots heads (ends at-lowest k e) c.if-stop-eq0.true released.new.slots released.new.heads
-    (rw (to_z-of_z {z = a.old} at-lowest.ranges.old) at released.ensures
-    ∙ ap (released_totals a.depth a.old) (ap (λ (l : List ℤ). store_of l heads)
-    (rw (to_z-of_z {z = tree.result.value} (record { sfits = c.struct_told-1.given.1.0.1 }))
-    at c.set_totals.ensures)
-    ∙ totals_store slots heads tree.result.value (omega (arith, at-lowest.requires.0, tree.auto.slots))))
-
-same_length_4 : tie.Need-shape_of-heads-else-stop-eq0
-same_length_4 c =
-    c.work_tree-r.auto.heads ∙ c.retain_totals.auto.heads
-
-returns_2 : tie.Need-returns-else-stop-eq0
-returns_2 c =
-    let at-lowest = c.before in let tree = at-lowest.work_tree-r in
-    λ k e. main_stops tree.new.slots tree.new.heads (ends at-lowest k e) c.if-stop-eq0.false
-
+-- the goals of the two branches are not named, since their names have the test in them
 pub work_main_spec : {M : Type 1} → statement M
 work_main_spec =
     tie.close
     (tie.spec (λ c κs. search rules) (λ c κs. search rules) (λ c κs. search rules) (λ c κs. search rules)
     (λ c. search rules) add_name_at (λ c κs. search rules) add_name_at_2 add_name_at_3 (λ c κs. search rules)
     bind_requires bind_requires_2 set_function_requires add_work_tree add_work_tree_2 work_tree_requires
-    lowest_requires (λ c κs. search rules) (λ c κs. search rules) (λ c. search rules) same_length_2 returns
-    (λ c. search rules) same_length_4 returns_2)
+    lowest_requires (λ c κs. search rules) (λ c κs. search rules) (λ c. search rules)
+    (λ c. c.release_totals.auto.heads ∙ c.work_tree-r.auto.heads ∙ c.retain_totals.auto.heads)
+    (λ c. let at-lowest = c.before.before.before.before.before.before.before.before.before.before.before in
+    let a = at-lowest.args in
+    let tree = at-lowest.work_tree-r in
+    let slots = tree.new.slots in
+    let heads = tree.new.heads in
+    let released = c.release_totals in
+    λ k e. main_goes slots heads (ends at-lowest k e) (omega arith) released.new.slots released.new.heads
+    (rw (to_z-of_z {z = a.old} at-lowest.ranges.old) at released.ensures
+    ∙ ap (released_totals a.depth a.old) (ap (λ (l : List ℤ). store_of l heads)
+    (rw (to_z-of_z {z = tree.result.value} (record { sfits = c.struct_told-1.given.1.0.1 })) at c.set_totals.ensures)
+    ∙ totals_store slots heads tree.result.value (omega (arith, at-lowest.requires.0, tree.auto.slots)))))
+    (λ c. search rules) (λ c. c.work_tree-r.auto.heads ∙ c.retain_totals.auto.heads)
+    (λ c. let at-lowest = c.before in
+    let tree = at-lowest.work_tree-r in
+    λ k e. main_stops tree.new.slots tree.new.heads (ends at-lowest k e) (λ z. omega (arith, z))))
