@@ -1,7 +1,7 @@
 -- Laws of the walk of a line: what was written and taken back is what the walk says.
-use Rattle.prelude.specs.Kit.{ℕ, ◌+◌, ◌<◌, ◌-◌, ◌*◌, arith, true, false, Bool, ◌≡◌, refl, ◌∙◌, sym, ap, ⊎_elim, List}
+use Rattle.prelude.specs.Kit.{ℕ, ◌+◌, ◌<◌, ◌*◌, arith, true, false, Bool, ◌≡◌, refl, ◌∙◌, sym, ap, ⊎_elim, List}
 use Rattle.prelude.specs.Kit.{[], ◌∷◌, ◌++◌, append_assoc, ℤ, length, set, tag_of, OneOf}
-use Rattle.semantics.specs.Kinds.{Leaf, call, literal, Loop, loop_kind}
+use Rattle.semantics.specs.Kinds.{Leaf, call, literal, loop_kind}
 use Rattle.semantics.specs.Kinds.{Borrowing}
 use Rattle.semantics.specs.Code as C
 use Rattle.semantics.specs.Code.{Row, row}
