@@ -1,4 +1,4 @@
--- `script-twins`: the program of an accepted script in which every map stays a map, and its program in the full style,
+-- `script_twins`: the program of an accepted script in which every map stays a map, and its program in the full style,
 -- are twins.
 use Rattle.prelude.specs.Kit.{ℕ, ◌≤◌, ◌<◌, suc, arith, false, Bool, ◌&&◌, ◌||◌}
 use Rattle.prelude.specs.Kit.{and-false, ◌≡◌, refl, ◌∙◌, sym, ap, subst, inl, inr, ◌≢◌, List, [], ◌∷◌, ltb, length}

@@ -1,4 +1,4 @@
--- `delivery-twins`: a delivery in both runs, from stores at rest that correspond.
+-- `delivery_twins`: a delivery in both runs, from stores at rest that correspond.
 use Rattle.prelude.specs.Kit.{ℕ, ◌≤◌, ◌+◌, ◌<◌, suc, zero, arith, true, false, false≢true, ◌≡◌, refl, ◌∙◌, sym, ap}
 use Rattle.prelude.specs.Kit.{subst, List, [], ◌∷◌, ◌++◌, ℤ, pos, length}
 use Rattle.semantics.specs.Basics.{◌∈◌}

@@ -1,4 +1,4 @@
--- `twin-owes`: the first of two twin trees leaves what the leaner does, so that nothing stays owed.
+-- `twin_owes`: the first of two twin trees leaves what the leaner does, so that nothing stays owed.
 use Rattle.prelude.specs.Kit.{ℕ, List, [], ◌∷◌}
 use Rattle.semantics.specs.Kinds.{mapping, rewriting}
 use Rattle.semantics.specs.Code.{name, leaf, if_else, loop, retain, release, Tree}

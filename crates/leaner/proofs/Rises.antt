@@ -1,4 +1,4 @@
--- `lowest-rises`: on the same store and budget, the lowest level of the leaner of two deliveries is no lower.
+-- `lowest_rises`: on the same store and budget, the lowest level of the leaner of two deliveries is no lower.
 use Rattle.prelude.specs.Kit.{ℕ, ◌≤◌, ◌+◌, arith, false, ◌≡◌, refl, subst, List, ℤ, length}
 use Rattle.semantics.specs.Outcome.{Outcome}
 use Rattle.semantics.specs.Machine.{State, Routine, Program, delivery, delivered_by}

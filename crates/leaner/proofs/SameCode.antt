@@ -1,5 +1,5 @@
 -- The same code on a store that corresponds, with more cells and a larger budget, tells the same: `same_code`, and
--- `larger-by-twins` for stores just opened.
+-- `larger_by_twins` for stores just opened.
 use Rattle.prelude.specs.Kit.{ℕ, ◌≤◌, ◌+◌, ◌<◌, suc, zero, arith, true, ◌≡◌, refl, ◌∙◌, sym, ap, ◌≢◌, List, [], ◌∷◌}
 use Rattle.prelude.specs.Kit.{map, ℤ, pos, length, take, length-take, length-map}
 use Rattle.semantics.specs.Basics.{◌∈◌}

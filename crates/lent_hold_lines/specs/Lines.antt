@@ -1,5 +1,5 @@
 -- The lines of lent code that have no tree, as they are read at a position: what each does to the holds. Where the rows
--- of a line stand there, this is `hold-line`'s word for it.
+-- of a line stand there, this is `hold_line`'s word for it.
 use Rattle.std.specs.Prelude.{◌≡◌, Bool, true, false, cond, not, ◌&&◌, ◌||◌, List, [], ◌∷◌, ℕ, zero, suc, ◌+◌, ◌≤◌, ℤ, eqb, ltb, length, get_or}
 use Rattle.semantics.specs.Outcome.{Outcome, done, stop, ◌>>=◌, ◌>>◌, give}
 use Rattle.semantics.specs.Kinds.{Borrowing, picked}

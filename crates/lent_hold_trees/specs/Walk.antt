@@ -1,5 +1,5 @@
 -- The third walk over lent code by positions, for rows of any content. Where the rows of a tree stand from a position
--- on it is `hold-tree`.
+-- on it is `hold_tree`.
 use Rattle.std.specs.Prelude.{◌≡◌, Bool, true, false, List, [], ◌∷◌, ℕ, zero, suc, ◌+◌, ◌≤◌, ℤ, pos, length}
 use Rattle.std.proofs.Math.Option.{Option, none, some}
 use Rattle.semantics.specs.Outcome.{stop, ◌>>=◌, ◌>>◌, give}
@@ -79,7 +79,7 @@ module _ (Γ : NameDepths) (W : Walk) where
     J ← W B empty H (same_holds I)
     give (record { holds = hold_also Γ x I; pending = empty })
 
-  -- as `hold-line` has it
+  -- as `hold_line` has it
   unfoldable pub loop_by : ℕ → K.Loop → List ℕ → List C.Atom → Set → Holds → Test After
   loop_by x k ps us B H = do
     I ← spend Γ (loop_hands k us) H

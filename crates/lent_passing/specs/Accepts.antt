@@ -1,4 +1,4 @@
--- `fits-say`: lent code that `form` and `fit` accept is what the soundness of holds asks for.
+-- `fits_say`: lent code that `form` and `fit` accept is what the soundness of holds asks for.
 use Rattle.std.specs.Prelude.{ℕ, ◌≤◌, ◌+◌, ◌<◌, suc, zero, true, false, Bool, not, ◌||◌, ◌≡◌, refl, List, [], ◌∷◌}
 use Rattle.std.specs.Prelude.{map, eqb, length, get_or}
 use Rattle.prelude.specs.Kit.{arith, ◌∙◌, sym, ap, subst, ap₂, length-append, eqb-true, not-true}

@@ -1,4 +1,4 @@
--- `form-said`: where `form` accepts, the lines are the rows of the functions that it gives, and these are in form.
+-- `form_said`: where `form` accepts, the lines are the rows of the functions that it gives, and these are in form.
 use Rattle.std.specs.Prelude.{ℕ, ◌≤◌, ◌+◌, ◌<◌, suc, zero, ◌*◌, min, pred, true, false, Bool, ◌||◌, ◌≡◌, refl, List}
 use Rattle.std.specs.Prelude.{[], ◌∷◌, ◌++◌, map, eqb, ltb, ℤ, pos, length, get_or}
 use Rattle.prelude.specs.Kit.{arith, ◌∙◌, sym, ap, subst, some, none, Option, append-nil, length-append, length-take}

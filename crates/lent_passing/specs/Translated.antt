@@ -1,4 +1,4 @@
--- `code-passes`: all code from the translator passes.
+-- `code_passes`: all code from the translator passes.
 use Rattle.std.specs.Prelude.{ℕ, ◌≤◌, ◌+◌, ◌<◌, ◌-◌, suc, zero, ◌*◌, true, Bool, ◌&&◌, ◌≡◌, refl, List, [], ◌∷◌, ◌++◌}
 use Rattle.std.specs.Prelude.{map, length, get_or}
 use Rattle.prelude.specs.Kit.{arith, ◌∙◌, sym, ap, subst, ap₂, some, none, Option, length-append, length-map, eq-eqb}

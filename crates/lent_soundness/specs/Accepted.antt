@@ -1,4 +1,4 @@
--- `accepted-disciplined`, `accepted-sound`: what passes is disciplined, and one delivery by it on a settled store does
+-- `accepted_disciplined`, `accepted_sound`: what passes is disciplined, and one delivery by it on a settled store does
 -- what it means with retains and releases ignored.
 use Rattle.std.specs.Prelude.{ℕ, ◌≤◌, ◌+◌, ◌<◌, true, false, Bool, ◌≡◌, refl, List, [], ◌∷◌, map, ℤ, length, get_or}
 use Rattle.prelude.specs.Kit.{arith, false≢true, ◌∙◌, sym, ap, subst}

@@ -1,4 +1,4 @@
--- `none-bound-says`: what the walk asks at the end of an if's first tree, that it leaves holds on no name but those
+-- `none_bound_says`: what the walk asks at the end of an if's first tree, that it leaves holds on no name but those
 -- that were held or lent before, is document 02's "no tree ends with a hold on a name bound in it".
 use Rattle.std.specs.Prelude.{ℕ, true, false, Bool, cond, ◌||◌, ◌≡◌, refl, ◌⊎◌, List, [], ◌∷◌, ◌++◌, eqb}
 use Rattle.prelude.specs.Kit.{arith, false≢true, ◌∙◌, sym, subst, inl, inr, eq-eqb, eqb-true}

@@ -1,4 +1,4 @@
--- A delivery by a script agrees with its entry beside deliveries by lent code, and the store stands again: `file-step`.
+-- A delivery by a script agrees with its entry beside deliveries by lent code, and the store stands again: `file_step`.
 use Rattle.std.specs.Prelude.{ℕ, ◌-◌, true, false, Bool, cond, ◌≡◌, refl, List, ℤ}
 use Rattle.prelude.specs.Kit.{arith, ◌∙◌, sym, ap, subst, some, none, Option, eq-eqb}
 use Rattle.semantics.specs.Outcome.{Outcome, done, stop}

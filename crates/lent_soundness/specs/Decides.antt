@@ -1,4 +1,4 @@
--- `tree-decides`: the third walk decides the discipline of holds. Where it does not stop, the tree is `Holding`, and it
+-- `tree_decides`: the third walk decides the discipline of holds. Where it does not stop, the tree is `Holding`, and it
 -- stops only where the tree is not.
 use Rattle.std.specs.Prelude.{ℕ, ◌≤◌, ◌+◌, ◌<◌, true, false, Bool, cond, ◌||◌, ◌≡◌, refl, ◌⊎◌, List, [], ◌∷◌, ◌++◌}
 use Rattle.std.specs.Prelude.{ltb, length}

@@ -1,4 +1,4 @@
--- `works-lent`: over every list of deliveries, by lent code and by scripts as they come, what passes does what it
+-- `works_lent`: over every list of deliveries, by lent code and by scripts as they come, what passes does what it
 -- means, touches no free cell and leaves none but the totals'.
 use Rattle.std.specs.Prelude.{ℕ, ◌-◌, ◌≡◌, List, [], ◌∷◌, ℤ}
 use Rattle.prelude.specs.Kit.{sym, subst}

@@ -1,4 +1,4 @@
--- `judged-line`: where lent code is refused, the line at fault is at most 4,096.
+-- `judged_line`: where lent code is refused, the line at fault is at most 4,096.
 use Rattle.std.specs.Prelude.{ℕ, ◌≤◌, ◌≡◌, List, ℤ}
 use Rattle.semantics.specs.Outcome.{Outcome, done, stop}
 use Rattle.semantics.specs.Annotate.{NameDepths}

@@ -1,5 +1,5 @@
 -- The table of borrowed parameters by positions, for rows of any content. Where the rows of functions stand it is
--- `lent-table`.
+-- `lent_table`.
 use Rattle.std.specs.Prelude.{◌≡◌, Bool, cond, not, ◌&&◌, List, [], ℕ, zero, suc, ◌+◌, ◌-◌, ◌<◌, ◌≤◌, min, ℤ, eqb, ltb, get_or, length}
 use Rattle.semantics.specs.Basics.{tabulate}
 use Rattle.semantics.specs.Live.{Set, empty}

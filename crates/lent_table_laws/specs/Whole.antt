@@ -1,4 +1,4 @@
--- The table by positions is `lent-table` where the rows of the functions stand: the statement that the engine's table
+-- The table by positions is `lent_table` where the rows of the functions stand: the statement that the engine's table
 -- is held to.
 use Rattle.std.specs.Prelude.{ℕ, ◌≤◌, ◌+◌, ◌<◌, ◌-◌, suc, zero, ◌*◌, ◌%◌, Bool, cond, ◌&&◌, not, ◌≡◌, refl, List, []}
 use Rattle.std.specs.Prelude.{◌∷◌, ◌++◌, map, eqb, ltb, ℤ, length, get_or, take}

@@ -210,7 +210,7 @@ module _ (file : List ℕ) (fs : Script) (ok : judged file ≡ accepted fs) (few
       budget (store_of slots heads)
       (levels_bounded file fs ok held.short slots heads sound readings budget request)
 
--- what `code-kinds` and `code-operands` leave in the arrays
+-- what `code_kinds` and `code_operands` leave in the arrays
 pub code_written : (fs : Script) (ks : List ℕ) (os : List ℤ) →
     At (map (λ r. r.kind) (code fs) ++ ks) (map (λ r. r.operand) (code fs) ++ os) 0 (code fs)
 code_written fs ks os = front_written (code fs) ks [] os [] refl

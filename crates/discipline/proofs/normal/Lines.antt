@@ -1,4 +1,4 @@
--- `normal-run`: the lines of an expression do what the expression means, whatever the callee.
+-- `normal_run`: the lines of an expression do what the expression means, whatever the callee.
 use Rattle.prelude.specs.Kit.{ℕ, ◌≤◌, ◌+◌, arith, ◌≡◌, refl, ◌∙◌, ap, fun_ext, List, [], ◌∷◌, map, length}
 use Rattle.laws.specs.Updates.{updated_other, updated_same}
 use Rattle.semantics.specs.Basics.{updated}

@@ -1,4 +1,4 @@
--- `running-is-meaning`: running the code of a script on values is the script's meaning, for every script, function and
+-- `running_is_meaning`: running the code of a script on values is the script's meaning, for every script, function and
 -- arguments, in whatever style the code is annotated.
 use Rattle.prelude.specs.Kit.{ℕ, suc, zero, ◌≡◌, refl, ◌∙◌, ap, List, [], ◌∷◌, length, get_or}
 use Rattle.semantics.specs.Basics.{tabulate}

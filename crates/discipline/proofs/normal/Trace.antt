@@ -1,5 +1,5 @@
--- `running-grows`, `meaning-grows`: a run only adds to the trace, and each step that it adds is one less that is left.
--- `wants-stays`: what a step wants does not change with later steps.
+-- `running_grows`: a run only adds to the trace, and each step that it adds is one less that is left.
+-- `wants_stays`: what a step wants does not change with later steps.
 use Rattle.prelude.specs.Kit.{ℕ, ◌≤◌, ◌+◌, suc, zero, arith, true, false, Bool, cond, ◌≡◌, refl, ◌∙◌, sym, ap, List, []}
 use Rattle.prelude.specs.Kit.{◌∷◌, ◌++◌, map, append_assoc, pos, nat_abs, length, get_or, length-append, ne_eqb}
 use Rattle.std.proofs.Math.ListN as List

@@ -1,5 +1,5 @@
--- `functions-in-disciplined`, `functions-in-frugal`: every function of an accepted script is so, in every style.
--- `main-shape-of`: main has main's shape.
+-- `functions_in_disciplined`, `functions_in_frugal`: every function of an accepted script is so, in every style.
+-- `main_shape_of`: main has main's shape.
 use Rattle.prelude.specs.Kit.{ℕ, ◌≤◌, ◌+◌, suc, zero, arith, true, false, Bool, cond, ◌≡◌, refl, sym, ap, subst, some}
 use Rattle.prelude.specs.Kit.{none, Option, List, [], ◌∷◌, ltb, length, get_or, ltb-false}
 use Rattle.script_laws.specs.Admitted.{no_script}

@@ -1,4 +1,4 @@
--- `annotated-sound`: annotation gives sound trees, in which at each point exactly the live arrays that are not lent
+-- `annotated_sound`: annotation gives sound trees, in which at each point exactly the live arrays that are not lent
 -- hold one reference each.
 use Rattle.prelude.specs.Kit.{ℕ, ◌≤◌, ◌+◌, ◌<◌, suc, min, max, arith, dec_lt, false≢true, ◌≡◌, ◌∙◌, sym, ap, inl, inr}
 use Rattle.prelude.specs.Kit.{List, [], ◌∷◌}

@@ -1,4 +1,4 @@
--- `names-called`: where the check of names finds no fault, every call is of a function that is there.
+-- `names_called`: where the check of names finds no fault, every call is of a function that is there.
 use Rattle.prelude.specs.Kit.{ℕ, ◌+◌, true, ◌≡◌, List, [], ◌∷◌}
 use Rattle.semantics.specs.Basics.{updated}
 use Rattle.semantics.specs.Syntax.{Expr, number, name, let_in, leaf, if_else, loop, Exprs, none, more, size, sizes}

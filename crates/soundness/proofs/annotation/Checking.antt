@@ -1,4 +1,4 @@
--- `check-typed`: an expression in which the check finds no fault is typed.
+-- `check_typed`: an expression in which the check finds no fault is typed.
 use Rattle.prelude.specs.Kit.{ℕ, ◌+◌, suc, true, false, cond, ◌≡◌, refl, ◌∙◌, sym, ap, subst, some, Option, List, []}
 use Rattle.prelude.specs.Kit.{◌∷◌, ◌++◌, map, eqb, length}
 use Rattle.semantics.specs.Basics.{updated}

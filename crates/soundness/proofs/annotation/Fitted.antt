@@ -1,4 +1,4 @@
--- Expressions whose new names have the right depths in a table. `typed-fitted`: the table of a typed expression's own
+-- Expressions whose new names have the right depths in a table. `typed_fitted`: the table of a typed expression's own
 -- lines is such a one.
 use Rattle.prelude.specs.Kit.{ℕ, ◌≤◌, ◌+◌, ◌<◌, suc, arith, true, false, cond, ◌≡◌, refl, ◌∙◌, sym, ap, subst, ◌≢◌}
 use Rattle.prelude.specs.Kit.{some, List, [], ◌∷◌, ◌++◌, map, eqb, length}

@@ -1,4 +1,4 @@
--- `holding-lent`, `frugal-lent`: a tree that keeps the discipline by depths in which some names are numbers, and spares
+-- `holding_lent`, `frugal_lent`: a tree that keeps the discipline by depths in which some names are numbers, and spares
 -- these names, keeps it by their true depths too, with the arrays among them lent.
 use Rattle.prelude.specs.Kit.{ℕ, ◌<◌, min, arith, dec_lt, true, false, Bool, cond, ◌&&◌, and-false, ◌≡◌, refl, ◌∙◌, sym}
 use Rattle.prelude.specs.Kit.{ap, subst, inl, inr, List, [], ◌∷◌, ◌++◌, eqb, ltb, ne_eqb, eq-eqb, le-ltb, ltb-true}

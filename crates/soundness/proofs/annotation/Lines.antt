@@ -1,4 +1,4 @@
--- `leaf-line`, `if-line`: an annotated leaf, and an annotated if, before a sound tree.
+-- `leaf_line`, `if_line`: an annotated leaf, and an annotated if, before a sound tree.
 use Rattle.prelude.specs.Kit.{ℕ, ◌+◌, ◌-◌, suc, min, max, arith, true, false, Bool, ◌&&◌, not, ◌≡◌, refl, ◌∙◌, sym, ap}
 use Rattle.prelude.specs.Kit.{subst, inl, inr, List, [], ◌∷◌, ◌++◌, eq-eqb}
 use Rattle.semantics.specs.Basics.{with_if, occurrences}

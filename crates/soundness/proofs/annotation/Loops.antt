@@ -1,4 +1,4 @@
--- `loop-line`: a loop, as it is written, before a sound tree. It lends the array that it reads to its tree.
+-- `loop_line`: a loop, as it is written, before a sound tree. It lends the array that it reads to its tree.
 use Rattle.prelude.specs.Kit.{ℕ, arith, ◌≡◌, refl, ◌∙◌, sym, subst, List}
 use Rattle.prelude.specs.Kit.{[], ◌++◌}
 use Rattle.semantics.specs.Kinds.{Borrowing, Loop, loop_hands, loop_reads}

@@ -1,4 +1,4 @@
--- `lines-formed`: the normal form of an expression whose new names have the right depths is well formed.
+-- `lines_formed`: the normal form of an expression whose new names have the right depths is well formed.
 use Rattle.prelude.specs.Kit.{ℕ, ◌≤◌, ◌+◌, ◌<◌, suc, arith, true, false, cond, ◌≡◌, refl, ◌∙◌, sym, ap, subst, List, []}
 use Rattle.prelude.specs.Kit.{◌∷◌, map, eqb, pos, length, eq-eqb}
 use Rattle.semantics.specs.Basics.{updated}

@@ -1,4 +1,4 @@
--- `program-disciplined`, `program-frugal`: the program of an accepted script whose code has at most 4,096 rows is what
+-- `program_disciplined`, `program_frugal`: the program of an accepted script whose code has at most 4,096 rows is what
 -- the machine's soundness asks for; and so it is in every style.
 use Rattle.prelude.specs.Kit.{ℕ, ◌≤◌, arith, ◌≡◌, refl, ap, List, length}
 use Rattle.semantics.specs.Syntax.{Script, function_at}

@@ -1,4 +1,4 @@
--- What the reader answers is within its limits (`file-limited`): operands are at most what their kind allows.
+-- What the reader answers is within its limits (`file_limited`): operands are at most what their kind allows.
 use Rattle.prelude.specs.Kit.{ℕ, ◌≤◌, ◌+◌, suc, zero, ◌%◌, ◌/◌, arith, true, false, Bool, cond, ◌≡◌, refl, ◌∙◌, sym, ap}
 use Rattle.prelude.specs.Kit.{subst, List, [], ◌∷◌, eqb, leb, ℤ, pos, negsuc, length, get_or, take, drop, eqb-true}
 use Rattle.prelude.specs.Kit.{leb-true}

@@ -1,4 +1,4 @@
--- `annotated-fits`: annotation gives trees whose depths fit and whose names are known.
+-- `annotated_fits`: annotation gives trees whose depths fit and whose names are known.
 use Rattle.prelude.specs.Kit.{ℕ, ◌≤◌, ◌<◌, suc, arith, true, false, Bool, ◌&&◌, not, false≢true, ◌≡◌, refl, ◌∙◌, sym}
 use Rattle.prelude.specs.Kit.{ap, subst, inl, inr, List, [], ◌∷◌, eq-eqb, ltb-true}
 use Rattle.semantics.specs.Basics.{with_if, occurrences, ◌∈◌}

@@ -1,4 +1,4 @@
--- `annotated-adds`: code in another style adds no more references than that in the full style.
+-- `annotated_adds`: code in another style adds no more references than that in the full style.
 use Rattle.prelude.specs.Kit.{ℕ, ◌≤◌, ◌+◌, arith, true, false, Bool, cond, ◌&&◌, ◌≡◌, refl, ap, inl, inr, ◌⊎◌, List, []}
 use Rattle.prelude.specs.Kit.{◌∷◌, ltb, length}
 use Rattle.semantics.specs.Basics.{with_if}
