@@ -1,5 +1,5 @@
 -- Demand 2: running the code does what the script means, unless a cell is wanting.
-use Rattle.prelude.specs.Kit.{ℕ, ◌-◌, arith, true, false, Bool, cond, ◌≡◌, refl, ◌∙◌, subst, List}
+use Rattle.prelude.specs.Kit.{ℕ, arith, true, false, Bool, cond, ◌≡◌, refl, ◌∙◌, subst, List}
 use Rattle.semantics.specs.Syntax.{Script, main_depth}
 use Rattle.semantics.specs.Calls.{Verdict, accepted, refused, judged, admitted, admitted_if, code_fits}
 use Rattle.semantics.specs.Demands.{Demand2}

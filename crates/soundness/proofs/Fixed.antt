@@ -1,7 +1,7 @@
 -- The statements leave an engine no choice: a log has one least level, what a delivery answers and leaves is fixed by
 -- what it agrees with, and a machine that runs dry while a cell is free does not do what is meant. The last two are
 -- tried where a wrong engine would tell something else.
-use Rattle.prelude.specs.Kit.{ℕ, ◌≤◌, arith, true, false, Bool, cond, ◌≡◌, refl, ◌∙◌, sym, ap, some, Option}
+use Rattle.prelude.specs.Kit.{ℕ, ◌≤◌, arith, true, false, false≢true, Bool, cond, ◌≡◌, refl, ◌∙◌, sym, ap, some, Option}
 use Rattle.prelude.specs.Kit.{List, [], ◌∷◌, pos, length, replicate}
 use Rattle.std.proofs.Math.Option as O
 use Rattle.semantics.specs.Outcome.{Outcome, done, stop}
@@ -140,7 +140,7 @@ lowest_told σ' answer g = (fixed two_literals (opened 4 1) (list []) trial σ' 
 pub never_starts : Does 1 1000 (stop 25 (starting 1000 (opened 2 1)))
     (main_meaning printed_script (list []) (numbers (pos 250 ∷ [])) 1000) → ⊥
 unfolding computing printed_script
-never_starts h = absurd (let z : ◌≡◌ {A = ℕ} 0 1 = cc in omega arith)
+never_starts h = false≢true (sym h.2.none_free)
 
 -- the totals' cell with another element depth, as a run's last act
 abbrev deeper : Cell → Cell

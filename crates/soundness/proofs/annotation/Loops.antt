@@ -8,7 +8,7 @@ use Rattle.semantics.specs.Live.{Set, empty, ◌∪◌, ◌∖◌, ◌∖∖◌,
 use Rattle.semantics.specs.Annotate.{NameDepths, arrays, dying, Style, annotate}
 use Rattle.discipline.proofs.machine.Discipline.{hold_of, holds_of, handed, less, left_by}
 use Rattle.semantics.specs.Kinds.{carried_name}
-use Rattle.discipline.proofs.machine.Discipline.{outer_holds, pass_lent, pass_holds, Covered, Frugal}
+use Rattle.discipline.proofs.machine.Discipline.{outer_holds, pass_holds, Covered, Frugal}
 use Rattle.laws.specs.Lists.{occurrences_append}
 use Rattle.discipline.proofs.machine.Spending.{same_append}
 use Rattle.soundness.proofs.annotation.Held.{Few, names}
@@ -17,6 +17,7 @@ use Rattle.soundness.proofs.annotation.Unchanged.{live_release_all, pass, writte
 use Rattle.soundness.proofs.annotation.Counts.{releasing, Apart, before, behind, again, retainable}
 use Rattle.soundness.proofs.annotation.Counts.{handable}
 use Rattle.soundness.proofs.annotation.Counts.{left, readable, bound, covered_before}
+use Rattle.soundness.proofs.annotation.Trees as Trees
 use Rattle.soundness.proofs.annotation.Trees.{element_one, pass_parts, outer, Passing, given}
 
 -- over a loop that lends the array that it reads
@@ -35,7 +36,7 @@ module _ (Γ : NameDepths) (few : Few Γ) (B : List ℕ) (x : ℕ) (k : Loop) (p
   after = after_pass x ps t A
 
   abbrev inner : List ℕ
-  inner = pass_lent Γ B k us
+  inner = Trees.inner Γ few B x k ps us t A
 
   module _ (apart : Apart Γ few B x us hands reads used A) (c e : ℕ)
       (passing : Passing Γ few B x k ps us t A apart c e) where

@@ -4,7 +4,7 @@ use Rattle.prelude.specs.Kit.{◌∷◌, map, eqb, pos, length, eq-eqb}
 use Rattle.semantics.specs.Basics.{updated}
 use Rattle.semantics.specs.Syntax as E
 use Rattle.semantics.specs.Syntax.{Expr, Exprs}
-use Rattle.semantics.specs.Code.{Atom, number, name, leaf, if_else, loop, Tree, end, line, ending}
+use Rattle.semantics.specs.Code.{Atom, number, name, leaf, loop, Tree, end, line, ending}
 use Rattle.semantics.specs.Live.{Set, ◌∪◌, only, just}
 use Rattle.semantics.specs.Normal.{Meanings, fresh, fresh_all, atom, atoms, numbered, meaning_names, lines, all_lines}
 use Rattle.semantics.specs.Annotate.{NameDepths, atom_depth, with_depths}

@@ -1,5 +1,5 @@
 -- What the rules of the types give, and nodes without fault.
-use Rattle.prelude.specs.Kit.{ℕ, ◌+◌, ◌<◌, suc, zero, pred, arith, true, false, Bool, cond, ◌&&◌, false≢true, ◌≡◌, refl}
+use Rattle.prelude.specs.Kit.{ℕ, ◌<◌, suc, zero, pred, arith, true, false, Bool, cond, ◌&&◌, false≢true, ◌≡◌, refl}
 use Rattle.prelude.specs.Kit.{◌∙◌, sym, ap, some, none, Option, List, [], ◌∷◌, ◌++◌, map, eqb, leb, length, get_or}
 use Rattle.prelude.specs.Kit.{eqb-true}
 use Rattle.laws.specs.Lists.{append_empty}

@@ -1,5 +1,5 @@
 -- Annotation by depths in which the names that are lent are numbers keeps a tree that spares them so.
-use Rattle.prelude.specs.Kit.{ℕ, arith, true, ◌&&◌, ◌≡◌, ◌∙◌, sym, subst, inl, inr}
+use Rattle.prelude.specs.Kit.{ℕ, arith, ◌&&◌, ◌≡◌, ◌∙◌, sym, subst, inl, inr}
 use Rattle.prelude.specs.Kit.{List, [], ◌∷◌, length}
 use Rattle.semantics.specs.Basics.{with_if}
 use Rattle.semantics.specs.Kinds.{Borrowing, Loop, leaf_hands, leaf_reads, loop_hands, loop_reads, is_pending}
@@ -13,11 +13,11 @@ use Rattle.semantics.specs.Annotate.{annotate_line}
 use Rattle.discipline.proofs.machine.Discipline.{loop_arity}
 use Rattle.soundness.proofs.annotation.Written.{written_as, written_arity}
 use Rattle.soundness.proofs.annotation.Sparing.{AllOwned, Spares, LineSpares, spares_retains, spares_releases}
-use Rattle.soundness.proofs.annotation.Sparing.{array_owned}
+use Rattle.soundness.proofs.annotation.Sparing.{Numbers, array_owned}
 
 -- over the names that are lent, and the places that are borrowed
 module _ (β : Borrowing) (lent : Set) where
-  module _ (style : Style) (Γ : NameDepths) (numbers : (n : ℕ) → lent n ≡ true → Γ n ≡ 0) where
+  module _ (style : Style) (Γ : NameDepths) (numbers : Numbers β lent Γ) where
     written_owned : (i : Loop) (x : ℕ) (ps : List ℕ) (us : List Atom) (t : Tree) (A : Set) → length us ≡ loop_arity i →
         AllOwned lent (loop_hands i us) → AllOwned lent (loop_hands (written style β Γ i x ps us t A) us)
     written_owned i x ps us t A h owns = elim (written_as style β Γ i x ps us t A h) [

@@ -115,7 +115,11 @@ module _ (β : Borrowing) (lent : Set) where
   spares_releases [] t s = s
   spares_releases (x ∷ xs) t s = (tt, spares_releases xs t s)
 
-  module _ (style : Style) (Γ : NameDepths) (numbers : (n : ℕ) → lent n ≡ true → Γ n ≡ 0) where
+  -- the names that are lent are numbers
+  abbrev pub Numbers : NameDepths → Type 0
+  Numbers Γ = (n : ℕ) → lent n ≡ true → Γ n ≡ 0
+
+  module _ (style : Style) (Γ : NameDepths) (numbers : Numbers Γ) where
     -- an array by Γ is not lent
     pub array_owned : (y : ℕ) → 0 < Γ y → lent y ≡ false
     array_owned y h = go (lent y) refl
