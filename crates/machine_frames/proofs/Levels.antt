@@ -10,21 +10,14 @@ low_few (pos n) = omega arith
 low_few (negsuc n) = omega arith
 
 module _ (n least : ℕ) (env : List ℤ) (e : least ≡ lowest_of env) where
-  pub noted_lower : n < least → levelled n env ≡ noted n env
-  unfolding noted
-  noted_lower h = rw (lt-ltb n (lowest_of env) (omega (arith, e))) refl
-
-  pub noted_higher : least ≤ n → set env level_place (pos n) ≡ noted n env
-  unfolding noted
-  noted_higher h = rw (le-ltb n (lowest_of env) (omega (arith, e))) refl
-
-  -- so of the words that are put there
-  pub noted_below : n < 2 ^ 63 → n < least →
+  pub noted_lower : n < 2 ^ 63 → n < least →
       set (set env level_place (to_z w64 n)) lowest_place (to_z w64 n) ≡ noted n env
-  noted_below b h = rw (lt-ltb n (2 ^ 63) b) (noted_lower h)
+  unfolding noted
+  noted_lower b h = rw (lt-ltb n (2 ^ 63) b, lt-ltb n (lowest_of env) (omega (arith, e, h))) refl
 
-  pub noted_above : n < 2 ^ 63 → least ≤ n → set env level_place (to_z w64 n) ≡ noted n env
-  noted_above b h = rw (lt-ltb n (2 ^ 63) b) (noted_higher h)
+  pub noted_higher : n < 2 ^ 63 → least ≤ n → set env level_place (to_z w64 n) ≡ noted n env
+  unfolding noted
+  noted_higher b h = rw (lt-ltb n (2 ^ 63) b, le-ltb n (lowest_of env) (omega (arith, e, h))) refl
 
 pub raised_by : (n k : ℕ) (env : List ℤ) → n ≡ level_of env → n + k < 2 ^ 63 →
     set env level_place (to_z w64 (n + k)) ≡ raised k env

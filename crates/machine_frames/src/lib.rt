@@ -158,7 +158,7 @@ pub fn set_level(env: &mut [i64; FRAME_WORDS], n: u32)
 }
 
 // Says how many cells are free after an acquire.
-#[tactic(auto, using(crate::proofs::Levels::noted_below, crate::proofs::Levels::noted_above))]
+#[tactic(auto, using(crate::proofs::Levels::noted_lower, crate::proofs::Levels::noted_higher))]
 pub fn note_level(env: &mut [i64; FRAME_WORDS], n: u32)
     requires { length env.old ≡ frame_words }
     ensures { env.new ≡ noted n env.old }

@@ -1,9 +1,9 @@
 -- Facts of each kind: what the tables of the definitions give for the kinds that the code does not name.
 use Rattle.prelude.specs.Kit.{ℕ, ◌≤◌, ◌+◌, ◌<◌, suc, zero, ◌*◌, ◌%◌, ◌/◌, arith, true, false, Bool, cond, ◌&&◌, not}
 use Rattle.prelude.specs.Kit.{false≢true, ◌||◌, ◌≡◌, refl, ◌∙◌, sym, List, [], ◌∷◌, eqb, ltb, leb, get_or, ne_eqb}
-use Rattle.prelude.specs.Kit.{eqb-true, ltb-true, leb-true, not-true}
+use Rattle.prelude.specs.Kit.{eqb-true, ltb-true, leb-true}
 use Rattle.laws.specs.Tests.{both_hold, or_left}
-use Rattle.semantics.specs.File.{Place, at_part, allowed, low_limits, high_limits, part_counts, part_count, part_kinds}
+use Rattle.semantics.specs.File.{Place, allowed, low_limits, high_limits, part_counts, part_count}
 use Rattle.script_read.specs.Told.{said_parts, limits_at}
 
 -- a table by kind: a test that each entry passes, and that d past its end passes
@@ -60,13 +60,6 @@ pub no_part : (k : ℕ) → NoneOf with_parts k → 0 ≡ get_or part_counts k 0
 no_part k n = others_zero with_parts part_counts refl k n
 
 -- ---- kinds that may stand at a place
-
--- the kinds of parts: 2 to 13 and 17 to 20
-abbrev of_parts : List ℕ
-of_parts = 20 ∷ 19 ∷ 18 ∷ 17 ∷ 13 ∷ 12 ∷ 11 ∷ 10 ∷ 9 ∷ 8 ∷ 7 ∷ 6 ∷ 5 ∷ 4 ∷ 3 ∷ 2 ∷ []
-
-pub no_part_kind : (k : ℕ) → NoneOf of_parts k → 65536 ≡ limits_at at_part k
-no_part_kind k n = rw (not-true (get_or part_kinds k false) (others_blank not false refl of_parts part_kinds refl k n))
 
 -- both parts of a limit fit a byte
 pub low_small : (k : ℕ) → get_or low_limits k 0 < 256

@@ -1,17 +1,17 @@
 -- The turns over parameters and the ways out of a function and a script, in the terms of the code.
 use Rattle.prelude.specs.Kit.{ℕ, ◌≤◌, ◌+◌, ◌<◌, ◌-◌, arith, true, false, Bool, cond, ◌&&◌, and-true, ◌≡◌, refl, ◌∙◌}
-use Rattle.prelude.specs.Kit.{sym, ap, ◌⊎◌, ⊎_elim, List, [], ◌∷◌, eqb, leb, leb-true, length, length-set, get_or, set}
+use Rattle.prelude.specs.Kit.{sym, ap, ◌⊎◌, ⊎_elim, List, [], ◌∷◌, eqb, length, length-set, get_or, set}
 use Rattle.prelude.specs.Kit.{replicate, ne_eqb, eq-eqb}
 use Rattle.semantics.specs.Outcome.{Outcome, done, stop}
 use Rattle.semantics.specs.File as S
-use Rattle.semantics.specs.File.{at_function, at_parameter, low_limits, look, looked, node_at}
+use Rattle.semantics.specs.File.{at_function, at_parameter, look, looked, node_at}
 use Rattle.semantics.specs.Types.{main_shape}
 use Rattle.script_read.specs.Told.{Parted, node_outcome, parted, low_at, high_at, repeated}
 use Rattle.script_read.specs.declared.Node.{Node}
 use Rattle.script_read.specs.declared.Node.TheVariants.{WrongKind, WrongOperand}
 use Rattle.script_read.specs.declared.Read.{Read}
 use Rattle.script_read.specs.declared.Read.TheVariants.{Next, Refused}
-use Rattle.script_read.proofs.Limits.{entry_passes}
+use Rattle.script_read.proofs.Limits.{low_small}
 use Rattle.script_read.proofs.Nodes.{Seen, unfit, head_fits, node_says, past}
 use Rattle.script_read.proofs.Turns.{less_one}
 use Rattle.script_read.proofs.Tables.{table_set, table_fresh}
@@ -41,10 +41,6 @@ module _ (k w : List ℕ) (c : ℕ) (ce : c ≡ low_at k w at_function 0) where
     pub by_second : a ≡ r → (b : ℕ) → b ≡ high_at k w at_parameter 2 → eqb b 1 ≡ main_shape (signature_at k w 0)
     by_second h b be = sym (two_parameters ∙ rw (eq-eqb a r h, ← be) (and-true (eqb b 1)))
 
--- the low part of an operand is at most 255, whatever the kind
-low_limit : (k : ℕ) → get_or low_limits k 0 ≤ 255
-low_limit k = leb-true _ 255 (entry_passes (λ i v. leb v 255) 0 (λ i. refl) low_limits refl k)
-
 -- looking past the nodes halts
 pub past_nodes : (k w : List ℕ) (place : S.Place) (p : ℕ) → length k ≤ p → parted (look k w place p) ≡ stop 3 p
 past_nodes k w place p h = sym (node_says k w place p WrongKind (past k w place p h))
@@ -70,7 +66,7 @@ module _ (k w s : List ℕ) where
           typed_parameter fresh_name (known_from k w s (c - 1)) (depths t) p v ≡ turned c p t (parted (looked v p))
       go (S.fits h) e =
           let f = head_fits k w at_parameter p h e in
-          let b : h.low < 256 = omega (arith, low_limit h.kind, f.low) in
+          let b : h.low < 256 = omega (arith, low_small h.kind, f.low) in
           rw (entry t h.low l b, table_set 255 t h.low h.high (omega arith))
       go S.wrong_kind e = refl
       go S.wrong_operand e = refl
