@@ -1,6 +1,8 @@
 -- Laws of the walk of a line: what was written and taken back is what the walk says.
-use Rattle.prelude.specs.Kit.{ℕ, ◌+◌, ◌<◌, ◌*◌, arith, true, false, Bool, ◌≡◌, refl, ◌∙◌, sym, ap, ⊎_elim, List}
-use Rattle.prelude.specs.Kit.{[], ◌∷◌, ◌++◌, append_assoc, ℤ, length, set, tag_of, OneOf}
+use Rattle.prelude.specs.Kit.{ℕ, ◌+◌, ◌<◌, ◌*◌, arith, true, false, Bool, ◌≡◌, refl, ◌∙◌, sym, ap, List}
+use Rattle.prelude.specs.Kit.{[], ◌∷◌, ◌++◌, append_assoc, ℤ, length, set}
+use Rattle.prelude.specs.Kit.{◌≤◌, ◌&&◌, not, dec_lt, ℕ_discrete, eqb, eq-eqb, ne_eqb, fun_ext, get_or}
+use Rattle.prelude.specs.Kit.{get_or-eq_default, set_out}
 use Rattle.semantics.specs.Kinds.{Leaf, call, literal, loop_kind}
 use Rattle.semantics.specs.Kinds.{Borrowing}
 use Rattle.semantics.specs.Code as C
@@ -18,7 +20,7 @@ use Rattle.plain_rows.specs.declared.Line.TheVariants as L
 use Rattle.annotate_rows.specs.Wrote.{Wrote}
 use Rattle.annotate_marks.specs.Took.{Took}
 use Rattle.annotate_loops.specs.Loops.{written_line, closing_of}
-use Rattle.plain_rows.specs.contracts.Line.{the_type}
+use Rattle.annotate_loops.proofs.LoopRows.{NotLoop}
 use Rattle.plain_rows.proofs.Atoms.{length_atoms}
 use Rattle.plain_rows.proofs.Rows.{of_size}
 use Rattle.plain_rows.proofs.Loops.{loop_again, same_parts, same_size}
@@ -38,23 +40,27 @@ false_true : false ≡ true → ⊥
 false_true e = omega (arith, ap bit e)
 
 -- lines with trees are no leaves
-pub not_leaf : (l : Line) → OneOf (4 ∷ 5 ∷ []) (tag_of the_type l) → is_leaf l ≡ true → ⊥
+pub if_no_leaf : (x : ℕ) (g : Atom) → is_leaf (L.If x g) ≡ true → ⊥
 unfolding is_leaf
-not_leaf (L.Unary x kind a) h e = ⊎_elim (λ z. omega arith) (λ z. omega arith) h
-not_leaf (L.Binary x kind a b) h e = ⊎_elim (λ z. omega arith) (λ z. omega arith) h
-not_leaf (L.Call x f m) h e = ⊎_elim (λ z. omega arith) (λ z. omega arith) h
-not_leaf (L.Literal x d m) h e = ⊎_elim (λ z. omega arith) (λ z. omega arith) h
-not_leaf (L.If x g) h e = false_true e
-not_leaf (L.Loop x kind y z a b) h e = false_true e
+if_no_leaf x g e = false_true e
 
-pub loop_is : (l : Line) → OneOf (5 ∷ []) (tag_of the_type l) → is_loop l ≡ true
+pub loop_no_leaf : (x kind y z : ℕ) (a b : Atom) → is_leaf (L.Loop x kind y z a b) ≡ true → ⊥
+unfolding is_leaf
+loop_no_leaf x kind y z a b e = false_true e
+
+-- and the others are
+pub leaf_is : (l : Line) → ((x : ℕ) (g : Atom) → l ≡ L.If x g → ⊥) → NotLoop l → is_leaf l ≡ true
+unfolding is_leaf
+leaf_is (L.Unary x kind a) n m = refl
+leaf_is (L.Binary x kind a b) n m = refl
+leaf_is (L.Call x f m) n h = refl
+leaf_is (L.Literal x d m) n h = refl
+leaf_is (L.If x g) n m = absurd (n x g refl)
+leaf_is (L.Loop x kind y z a b) n m = absurd (m x kind y z a b refl)
+
+pub loop_is : (x kind y z : ℕ) (a b : Atom) → is_loop (L.Loop x kind y z a b) ≡ true
 unfolding is_loop
-loop_is (L.Unary x kind a) h = absurd (omega arith)
-loop_is (L.Binary x kind a b) h = absurd (omega arith)
-loop_is (L.Call x f m) h = absurd (omega arith)
-loop_is (L.Literal x d m) h = absurd (omega arith)
-loop_is (L.If x g) h = absurd (omega arith)
-loop_is (L.Loop x kind y z a b) h = refl
+loop_is x kind y z a b = refl
 
 pub written_loop : (Γ : NameDepths) (p : ℕ) (M : Marks) (A : Set) (l : Line) → is_loop l ≡ true →
     is_loop (written_line Γ p M A l) ≡ true
@@ -66,16 +72,14 @@ written_loop Γ p M A (L.Literal x d m) e = e
 written_loop Γ p M A (L.If x g) e = e
 written_loop Γ p M A (L.Loop x kind y z a b) e = refl
 
-pub not_loop : (l : Line) → OneOf (0 ∷ 1 ∷ 2 ∷ 3 ∷ 4 ∷ []) (tag_of the_type l) → is_loop l ≡ true → ⊥
+pub not_loop : (l : Line) → NotLoop l → is_loop l ≡ true → ⊥
 unfolding is_loop
 not_loop (L.Unary x kind a) h e = false_true e
 not_loop (L.Binary x kind a b) h e = false_true e
 not_loop (L.Call x f m) h e = false_true e
 not_loop (L.Literal x d m) h e = false_true e
 not_loop (L.If x g) h e = false_true e
-not_loop (L.Loop x kind y z a b) h e =
-    ⊎_elim (λ q. omega arith) (⊎_elim (λ q. omega arith) (⊎_elim (λ q. omega arith)
-    (⊎_elim (λ q. omega arith) (λ q. omega arith)))) h
+not_loop (L.Loop x kind y z a b) h e = h x kind y z a b refl
 
 -- ---- lines without trees
 
@@ -153,6 +157,20 @@ module _ (F : Plain) (B : Borrowing) (Γ : NameDepths) (p : ℕ) {s₀ : List Bo
       (wrote_as (ap (λ (n : ℕ). handing Γ x (row 9 (x + 256 * n + 65536 * d)) us (set_of s₀))
       (sym (length_atoms F.operands F.rows (p + 1) m)) ∙ literal_rows B Γ x (set_of s₀) d us) y) t
 
+-- a name taken out of a set, also one past the end of its array
+without_any : (s : List Bool) (n : ℕ) → set_of (set s n false) ≡ set_of s ∖ n
+without_any s n = go (dec_lt n (length s))
+  where
+    past : length s ≤ n → (x : ℕ) → Dec (n ≡ x) → get_or s x false ≡ not (eqb n x) && get_or s x false
+    past h x (yes e) = rw (← e, eq-eqb n n refl) (get_or-eq_default s false h)
+    past h x (no f) = rw (ne_eqb n x f)
+
+    go : Dec (n < length s) → set_of (set s n false) ≡ set_of s ∖ n
+    go (yes h) = without_in s n h
+    go (no f) =
+        let h : length s ≤ n = omega (arith, f) in
+        ap (λ (t : List Bool). set_of t) (set_out s n false h) ∙ fun_ext (λ x. past h x (ℕ_discrete n x))
+
 -- ---- the lines of a tree, whatever walks the trees in them
 
 module _ (F : Plain) (B : Borrowing) (Γ : NameDepths) (W : ℕ → Point → Point) (p q : ℕ) {s s₁ : List Bool}
@@ -167,26 +185,17 @@ module _ (F : Plain) (B : Borrowing) (Γ : NameDepths) (W : ℕ → Point → Po
   leaf_line (L.If x g) e d = absurd (false_true e)
   leaf_line (L.Loop x kind y z a b) e d = absurd (false_true e)
 
-  pub binary_line : (x kind : ℕ) (a b : Atom) →
-      Wrote k o k₁ o₁ w w₁ (leaf_part B Γ x (binary_of kind) (meant a ∷ (meant b ∷ [])) (set_of s)) →
-      Took (is (meant a) ∪ is (meant b) ∪ set_of s ∖ x)
-      (unmarked F.notes (p + 1) (meant a) (unmarked F.notes (p + 2) (meant b) (marks_of c))) s₁ c₁ →
-      Walks (line_walk F B Γ W p q (L.Binary x kind a b)) s c k o w s₁ c₁ k₁ o₁ w₁
-  unfolding is_leaf
-  binary_line x kind a b y t = leaf_line (L.Binary x kind a b) refl (binary_done F B Γ p x kind a b y t)
-
   module _ {k₂ : List ℕ} {o₂ : List ℤ} {w₂ : ℕ} where
     -- what follows an if, and its trees
-    pub if_line : (x : ℕ) (g : Atom) → x < length s → Wrote k o k₁ o₁ w w₁ (release_rows (dying Γ (only x) (set_of
-        s))) →
+    pub if_line : (x : ℕ) (g : Atom) → Wrote k o k₁ o₁ w w₁ (release_rows (dying Γ (only x) (set_of s))) →
         Walks (if_trees F B Γ W p q x (meant g)) (set s x false) c k₁ o₁ w₁ s₁ c₁ k₂ o₂ w₂ →
         Walks (line_walk F B Γ W p q (L.If x g)) s c k o w s₁ c₁ k₂ o₂ w₂
     unfolding line_walk if_walk
-    if_line x g h y d = record {
+    if_line x g y d = record {
       added = d.added ++ release_rows (dying Γ (only x) (set_of s));
       is = λ rs.
           ap (λ (A : Set). if_trees F B Γ W p q x (meant g) (point A (marks_of c)
-          (release_rows (dying Γ (only x) (set_of s)) ++ rs))) (sym (without_in s x h))
+          (release_rows (dying Γ (only x) (set_of s)) ++ rs))) (sym (without_any s x))
           ∙ d.is (release_rows (dying Γ (only x) (set_of s)) ++ rs)
           ∙ ap (point (set_of s₁) (marks_of c₁)) (sym (append_assoc d.added _ rs));
       wrote = wrote_then y d.wrote;

@@ -1,6 +1,6 @@
 -- Laws of the walk of a tree: its end line, and its lines from the last to the first.
-use Rattle.prelude.specs.Kit.{ℕ, ◌≤◌, ◌+◌, ◌<◌, ◌-◌, suc, zero, arith, true, Bool, ◌≡◌, refl, ◌∙◌, sym, ap, ⊎_elim}
-use Rattle.prelude.specs.Kit.{List, [], ◌∷◌, ◌++◌, append_assoc, ℤ, length, get_or, lt-ltb, le-ltb, tag_of, OneOf}
+use Rattle.prelude.specs.Kit.{ℕ, ◌≤◌, ◌+◌, ◌<◌, ◌-◌, suc, zero, arith, Bool, ◌≡◌, refl, ◌∙◌, sym, ap}
+use Rattle.prelude.specs.Kit.{List, [], ◌++◌, append_assoc, ℤ, length, get_or, lt-ltb, le-ltb}
 use Rattle.semantics.specs.Kinds.{Borrowing}
 use Rattle.semantics.specs.Code.{Row}
 use Rattle.semantics.specs.Live.{is, among, ◌∪◌}
@@ -11,25 +11,12 @@ use Rattle.plain_rows.specs.Marks.{marks_of}
 use Rattle.plain_rows.specs.Walk.{Point, point, unmarked, unmarked_all, line_walk, back_walk, end_walk, tree_walk}
 use Rattle.kinds.specs.declared.Atom.{Atom}
 use Rattle.plain_rows.specs.declared.Line.{Line}
-use Rattle.plain_rows.specs.declared.Line.TheVariants as L
-use Rattle.plain_rows.specs.contracts.Line.{the_type}
 use Rattle.plain_rows.proofs.Atoms.{pred_suc}
 use Rattle.annotate_rows.specs.Wrote.{Wrote, Room}
 use Rattle.annotate_marks.specs.Took.{Took}
 use Rattle.annotate_rows.proofs.Rows.{wrote_none, wrote_then, lower}
-use Rattle.annotate.specs.Walks.{Walks, is_leaf}
+use Rattle.annotate.specs.Walks.{Walks}
 use Rattle.annotate.proofs.Lines.{same_point}
-
--- a line of another case than binary, if and loop
-pub leaf_is : (l : Line) → OneOf (0 ∷ 2 ∷ 3 ∷ []) (tag_of the_type l) → is_leaf l ≡ true
-unfolding is_leaf
-leaf_is (L.Unary x kind a) h = refl
-leaf_is (L.Binary x kind a b) h = refl
-leaf_is (L.Call x f m) h = refl
-leaf_is (L.Literal x d m) h = refl
-leaf_is (L.If x g) h = absurd (⊎_elim (λ z. omega arith) (⊎_elim (λ z. omega arith) (λ z. omega arith)) h)
-leaf_is (L.Loop x kind y z a b) h =
-    absurd (⊎_elim (λ z. omega arith) (⊎_elim (λ z. omega arith) (λ z. omega arith)) h)
 
 module _ (F : Plain) (B : Borrowing) (Γ : NameDepths) where
   pub end_done : (e : ℕ) (a : Atom) (v : ℕ) → v ≡ get_or F.rows (e + 1) 0 → a ≡ placed F.operands v →

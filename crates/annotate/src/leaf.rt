@@ -9,7 +9,7 @@ ghost use Rattle.annotate.specs.Walks.{Walks, is_leaf, no_tree};
 
 use annotate_lines::calls::put_call;
 use annotate_lines::{put_binary, put_handing, put_unary};
-use annotate_marks::{take_handed, take_two};
+use annotate_marks::{take_handed, take_pair};
 use kinds::Atom;
 use plain_rows::Line;
 
@@ -26,29 +26,38 @@ pub fn walk_leaf(
     l: Line,
     p: usize,
     at: &mut usize,
-    after: [bool; 256],
-) -> [bool; 256]
-    requires { (is_leaf l ≡ true) × (p < 4096) × (length cur.old ≡ 256) × Room ks.old os.old at.old }
+    live: &mut [bool; 256],
+)
+    requires leaf { is_leaf l ≡ true }
+    requires row { p < 4096 }
+    requires room { Room ks.old os.old at.old }
     ensures { Walks
         (line_walk (plain operands.now rows.now notes.now)
         (borrows table.now) (depth_in depths.now) no_tree p 0 l)
-        after cur.old ks.old os.old at.old
-        result cur.new ks.new os.new at.new }
+        live.old cur.old ks.old os.old at.old
+        live.new cur.new ks.new os.new at.new }
 {
     let w = *at;
     match l {
-        Line::Unary(x, kind, a) => {
-            let v = put_unary(ks, os, depths, x, kind, a, &after, w);
-            *at = v;
-            take_two(notes, cur, p, x, a, Atom::Number(0), after)
+        Line::Unary { name, kind, atom } => {
+            *at = put_unary(ks, os, depths, name, kind, atom, live, w);
+            take_pair(notes, cur, p, name, atom, Atom::Number(0), live);
         }
-        Line::Binary(x, kind, a, b) => {
-            let v = put_binary(ks, os, depths, x, kind, a, b, &after, w);
-            *at = v;
-            take_two(notes, cur, p, x, a, b, after)
+        Line::Binary {
+            name,
+            kind,
+            first,
+            second,
+        } => {
+            *at = put_binary(ks, os, depths, name, kind, first, second, live, w);
+            take_pair(notes, cur, p, name, first, second, live);
         }
-        Line::Call(x, f, m) => {
-            let v = put_call(
+        Line::Call {
+            name,
+            function,
+            count,
+        } => {
+            *at = put_call(
                 ks,
                 os,
                 depths,
@@ -56,21 +65,32 @@ pub fn walk_leaf(
                 rows,
                 table,
                 p + 1,
-                x,
-                f,
-                m,
-                &after,
+                name,
+                function,
+                count,
+                live,
                 w,
             );
-            *at = v;
-            take_handed(operands, rows, notes, cur, p, x, m, after)
+            take_handed(operands, rows, notes, cur, p, name, count, live);
         }
-        Line::Literal(x, d, m) => {
-            let n = x as u32 + 256 * (m as u32) + 65536 * (d as u32);
-            let v = put_handing(ks, os, depths, operands, rows, p + 1, x, m, 9, n, &after, w);
-            *at = v;
-            take_handed(operands, rows, notes, cur, p, x, m, after)
+        Line::Literal { name, depth, count } => {
+            let n = name as u32 + 256 * (count as u32) + 65536 * (depth as u32);
+            *at = put_handing(
+                ks,
+                os,
+                depths,
+                operands,
+                rows,
+                p + 1,
+                name,
+                count,
+                kinds::LITERAL,
+                n,
+                live,
+                w,
+            );
+            take_handed(operands, rows, notes, cur, p, name, count, live);
         }
-        _ => after,
+        Line::If { .. } | Line::Loop { .. } => unreachable!(),
     }
 }

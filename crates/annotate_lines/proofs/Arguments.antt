@@ -1,7 +1,13 @@
 -- Laws of a call's arguments: those at certain places, from the last to the first, and the names that are released.
-use Rattle.prelude.specs.Kit.{ℕ, ◌≤◌, ◌+◌, ◌<◌, ◌-◌, suc, zero, arith, dec_lt, true, false, Bool, ◌&&◌, not, ◌||◌, ◌≡◌}
+use Rattle.prelude.specs.Kit.{ℕ, ◌≤◌, ◌+◌, ◌<◌, ◌-◌, suc, zero, arith, dec_lt, true, false, Bool, ◌&&◌, not, ◌≡◌}
 use Rattle.prelude.specs.Kit.{refl, ◌∙◌, sym, ap, List, [], ◌∷◌, ◌++◌, eqb, ℤ, pos, get_or, ne_eqb, lt-ltb, eq-eqb}
 use Rattle.prelude.specs.Kit.{le-ltb, le-leb, lt-leb}
+use Rattle.prelude.specs.Kit.{cond, ltb, true≢false, or-true, or-false, map-append}
+use Rattle.std.specs.Prelude.{Option, Some, None, IfSome}
+use Rattle.std.specs.Ordering.{nat_cmp, partial_lt, is_lt}
+use Rattle.std.specs.Option.{option_partial_cmp}
+use Rattle.std.proofs.lemmas.Map.Keys.{ge_from_not_lt}
+use Rattle.std.proofs.lemmas.Bool.Decides.{nat_tests}
 use Rattle.semantics.specs.Basics.{with_if}
 use Rattle.semantics.specs.Kinds.{picked}
 use Rattle.semantics.specs.Code.{Atom, number, name}
@@ -11,9 +17,9 @@ use Rattle.plain_rows.specs.Plain.{meant, placed, atoms_at}
 use Rattle.plain_rows.specs.Parts.{retain_rows, release_rows, handed_one}
 use Rattle.plain_rows.proofs.Atoms.{atoms_more, atoms_none, atoms_all}
 use Rattle.annotate_rows.specs.Wrote.{Wrote}
-use Rattle.annotate_rows.proofs.Rows.{map_append, wrote_none, wrote_then, wrote_as}
+use Rattle.annotate_rows.proofs.Rows.{wrote_none, wrote_then, wrote_as}
 use Rattle.annotate_rows.proofs.Names.{releases_from, release_more}
-use Rattle.annotate_lines.specs.Calls.{counted, higher, highest}
+use Rattle.annotate_lines.specs.Calls.{counted, higher, highest, place_of}
 use Rattle.annotate_lines.proofs.Handed.{handed_cons}
 
 -- ---- an argument that counts
@@ -25,6 +31,10 @@ counts e f = rw (e, f)
 pub counts_not : {b : Bool} (c : Atom) → b ≡ false → number (pos 0) ≡ counted b c
 unfolding counted
 counts_not c e = rw e
+
+-- by the test that says whether it counts
+pub counted_as : {b c : Bool} {a : Atom} (d : Atom) → b ≡ c → a ≡ counted b d → a ≡ counted c d
+counted_as d e f = f ∙ ap (λ (i : Bool). counted i d) e
 
 counted_among : (b : Bool) (a : Atom) (us : List Atom) (A : Set) →
     is (counted b a) ∪ among us A ≡ among (with_if b a us) A
@@ -116,7 +126,7 @@ module _ (w rows : List ℕ) (P : ℕ → Bool) (at : ℕ) where
         Wrote k o k₂ o₂ v v₂ (retain_rows (handed_again Γ (picked_at (i - 1) m) A))
     owned_more i m a S g h e s x y =
         wrote_as
-        (sym (map_append _ (handed_one Γ a S) (handed_again Γ (picked_at i m) A))
+        (sym (map-append _ (handed_one Γ a S) (handed_again Γ (picked_at i m) A))
         ∙ ap (λ (l : List ℕ). retain_rows l) (names e s))
         (wrote_then x y)
       where
@@ -140,25 +150,47 @@ pub record Highest (U : Set) (bound r : ℕ) : Type 0 where
   pub none_above : (y : ℕ) → r ≤ y → y < bound → U y ≡ false
   pub member : 0 < r → U (r - 1) ≡ true
 
-or_true : (b : Bool) → b || true ≡ true
-or_true true = refl
-or_true false = refl
-
-or_none : (b : Bool) → b || false ≡ b
-or_none true = refl
-or_none false = refl
-
-pub higher_far : (y bound n : ℕ) → y + 1 ≤ n → n ≡ higher (name y) bound n
+higher_far : (y bound n : ℕ) → y + 1 ≤ n → n ≡ higher (name y) bound n
 unfolding higher
 higher_far y bound n h = rw (le-ltb n (y + 1) h)
 
-pub higher_past : (y bound n : ℕ) → n < y + 1 → bound < y + 1 → n ≡ higher (name y) bound n
+higher_past : (y bound n : ℕ) → bound < y + 1 → n ≡ higher (name y) bound n
 unfolding higher
-higher_past y bound n g h = rw (lt-ltb n (y + 1) g, lt-leb (y + 1) bound h)
+higher_past y bound n h = rw (lt-leb (y + 1) bound h) (none (ltb n (y + 1)))
+  where
+    none : (b : Bool) → n ≡ cond b n n
+    none true = refl
+    none false = refl
 
-pub higher_taken : (y bound n : ℕ) → n < y + 1 → y + 1 ≤ bound → y + 1 ≡ higher (name y) bound n
+higher_taken : (y bound n : ℕ) → n < y + 1 → y + 1 ≤ bound → y + 1 ≡ higher (name y) bound n
 unfolding higher
 higher_taken y bound n g h = rw (lt-ltb n (y + 1) g, le-leb (y + 1) bound h)
+
+-- a name and the highest so far, as the code compares them
+abbrev pub is_above : Option ℕ → ℕ → Bool
+is_above found y = partial_lt (option_partial_cmp (λ a b. Some (nat_cmp a b))) found (Some y)
+
+less : (z y : ℕ) → is_lt (nat_cmp z y) ≡ true → z < y
+less z y e = grind (arith, nat_tests)
+
+above_true : (found : Option ℕ) (y : ℕ) → is_above found y ≡ true → place_of found < y + 1
+above_true None y e = omega arith
+above_true (Some z) y e = omega (arith, less z y e)
+
+above_false : (found : Option ℕ) (y : ℕ) → is_above found y ≡ false → y + 1 ≤ place_of found
+above_false None y e = absurd (true≢false e)
+above_false (Some z) y e = omega (arith, ge_from_not_lt z y e)
+
+pub found_above : (found : Option ℕ) (y bound : ℕ) → y < bound → is_above found y ≡ true →
+    y + 1 ≡ higher (name y) bound (place_of found)
+found_above found y bound h e = higher_taken y bound (place_of found) (above_true found y e) (omega arith)
+
+pub found_below : (found : Option ℕ) (y bound : ℕ) → is_above found y ≡ false →
+    place_of found ≡ higher (name y) bound (place_of found)
+found_below found y bound e = higher_far y bound (place_of found) (above_false found y e)
+
+pub found_past : (found : Option ℕ) (y bound : ℕ) → bound ≤ y → place_of found ≡ higher (name y) bound (place_of found)
+found_past found y bound h = higher_past y bound (place_of found) (omega arith)
 
 pub higher_number : (z : ℤ) (bound n : ℕ) → n ≡ higher (number z) bound n
 unfolding higher
@@ -171,7 +203,7 @@ module _ {U : Set} {bound n : ℕ} (u : Highest U bound n) where
       rw (← e) (record {
         within = u.within;
         none_above = λ z g h. rw (ne_eqb y z (f z g h)) (u.none_above z g h);
-        member = λ g. rw (u.member g) (or_true (eqb y (n - 1)));
+        member = λ g. rw (u.member g) (or-true (eqb y (n - 1)));
       })
 
   taken : (y r : ℕ) → n < y + 1 → y + 1 ≤ bound → y + 1 ≡ r → Highest (only y ∪ U) bound r
@@ -188,7 +220,7 @@ module _ {U : Set} {bound n : ℕ} (u : Highest U bound n) where
     where
       go : Dec (n < y + 1) → Dec (bound < y + 1) → Highest (only y ∪ U) bound (higher (name y) bound n)
       go (no f) d = stays y _ (λ z g h e. omega (arith, f)) (higher_far y bound n (omega (arith, f)))
-      go (yes g) (yes h) = stays y _ (λ z i j e. omega arith) (higher_past y bound n g h)
+      go (yes g) (yes h) = stays y _ (λ z i j e. omega arith) (higher_past y bound n h)
       go (yes g) (no f) = taken y _ g (omega (arith, f)) (higher_taken y bound n g (omega (arith, f)))
 
 pub highest_is : (x bound : ℕ) (us : List Atom) → Highest (among us (only x)) bound (highest x bound us)
@@ -205,13 +237,18 @@ highest_is x bound [] = go (one_higher none (name x))
     go : {r : ℕ} → Highest (only x ∪ empty) bound r → Highest (only x) bound r
     go h = record {
       within = h.within;
-      none_above = λ y i j. sym (or_none (eqb x y)) ∙ h.none_above y i j;
-      member = λ i. sym (or_none _) ∙ h.member i;
+      none_above = λ y i j. sym (or-false (eqb x y)) ∙ h.none_above y i j;
+      member = λ i. sym (or-false _) ∙ h.member i;
     }
 highest_is x bound (a ∷ us) = one_higher (highest_is x bound us) a
 
 pub highest_as : (x bound : ℕ) (us : List Atom) {n : ℕ} → n ≡ highest x bound us → Highest (among us (only x)) bound n
 highest_as x bound us e = rw e (highest_is x bound us)
+
+pub highest_used : {U : Set} {bound : ℕ} (found : Option ℕ) → Highest U bound (place_of found) →
+    IfSome found (λ y. U y ≡ true)
+highest_used None h = tt
+highest_used (Some y) h = let below : y + 1 - 1 ≡ y = omega arith in rw below at (h.member (omega arith))
 
 -- ---- releases from the highest name down
 
@@ -236,14 +273,15 @@ module _ (Γ : NameDepths) (U A : Set) where
   drops_none n h =
       wrote_as (between (256 - n) n 256 (omega (arith, h.within)) (omega arith) h.none_above) wrote_none
 
-  pub drops_more : (n r : ℕ) → 0 < n → n ≤ 256 → U (n - 1) ≡ true → Highest U (n - 1) r →
-      {k k₁ k₂ : List ℕ} {o o₁ o₂ : List ℤ} {v v₁ v₂ : ℕ} → Wrote k o k₁ o₁ v v₁ (releases_from Γ U A n) →
-      Wrote k₁ o₁ k₂ o₂ v₁ v₂ (release_rows (with_if (is_array Γ (n - 1) && not (A (n - 1))) (n - 1) [])) →
+  pub drops_more : (y r : ℕ) → y < 256 → U y ≡ true → Highest U y r →
+      {k k₁ k₂ : List ℕ} {o o₁ o₂ : List ℤ} {v v₁ v₂ : ℕ} → Wrote k o k₁ o₁ v v₁ (releases_from Γ U A (y + 1)) →
+      Wrote k₁ o₁ k₂ o₂ v₁ v₂ (release_rows (with_if (is_array Γ y && not (A y)) y [])) →
       Wrote k o k₂ o₂ v v₂ (releases_from Γ U A r)
-  drops_more n r g l e h x y =
+  drops_more y r l e h p q =
+      let below : y + 1 - 1 ≡ y = omega arith in
       wrote_as
-      (ap (λ (b : Bool). release_rows (with_if (b && (is_array Γ (n - 1) && not (A (n - 1)))) (n - 1) [])
-      ++ releases_from Γ U A n) (sym e)
-      ∙ release_more Γ U A n g l
-      ∙ between (n - 1 - r) r (n - 1) (omega (arith, h.within)) (omega arith) h.none_above)
-      (wrote_then x y)
+      (ap (λ (b : Bool). release_rows (with_if (b && (is_array Γ y && not (A y))) y []) ++ releases_from Γ U A (y + 1))
+      (sym e)
+      ∙ (rw below at (release_more Γ U A (y + 1) (omega arith) (omega arith)))
+      ∙ between (y - r) r y (omega (arith, h.within)) (omega arith) h.none_above)
+      (wrote_then p q)

@@ -1,6 +1,6 @@
 -- Laws of atoms that are written and handed over, from the last to the first.
 use Rattle.prelude.specs.Kit.{ℕ, ◌≤◌, ◌+◌, ◌<◌, ◌-◌, arith, ◌&&◌, ◌≡◌, refl, ◌∙◌, sym, ap, List, [], ◌∷◌, ◌++◌, map, ℤ}
-use Rattle.prelude.specs.Kit.{get_or}
+use Rattle.prelude.specs.Kit.{get_or, map-append}
 use Rattle.semantics.specs.Code.{Atom, number, name, Row, atom_row}
 use Rattle.semantics.specs.Live.{Set, among}
 use Rattle.semantics.specs.Annotate.{NameDepths, is_array, handed_again}
@@ -9,7 +9,7 @@ use Rattle.plain_rows.specs.Parts.{retain_rows, handed_one}
 use Rattle.kinds.specs.declared.Atom as P
 use Rattle.plain_rows.proofs.Atoms.{atoms_more, atoms_none, atoms_all}
 use Rattle.annotate_rows.specs.Wrote.{Wrote}
-use Rattle.annotate_rows.proofs.Rows.{map_append, wrote_none, wrote_then, wrote_as}
+use Rattle.annotate_rows.proofs.Rows.{wrote_none, wrote_then, wrote_as}
 use Rattle.annotate_rows.proofs.Names.{with_if_append}
 
 module _ (Γ : NameDepths) where
@@ -54,7 +54,7 @@ module _ (w rows : List ℕ) (at : ℕ) where
         Wrote k o k₂ o₂ v v₂ (retains_at (i - 1) m)
     retains_go i m r a S g h e f s x y =
         wrote_as
-        (sym (map_append _ (handed_one Γ (meant a) S) (handed_again Γ (atoms_at w rows (at + i) (m - i)) A))
+        (sym (map-append _ (handed_one Γ (meant a) S) (handed_again Γ (atoms_at w rows (at + i) (m - i)) A))
         ∙ ap (λ (l : List ℕ). retain_rows l) (names s (meant a) (ap meant (f ∙ ap (placed w) e))))
         (wrote_then x y)
       where

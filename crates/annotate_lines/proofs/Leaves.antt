@@ -8,14 +8,12 @@ use Rattle.semantics.specs.Kinds.{leaf_operand, leaf_hands, leaf_reads, is_pendi
 use Rattle.semantics.specs.Code.{Atom, number, name, Row, row, atom_row}
 use Rattle.semantics.specs.Live.{Set, empty, is, only, among, ◌∪◌, members_from, members}
 use Rattle.semantics.specs.Annotate.{NameDepths, atom_depth, is_array, dying, handed_again}
-use Rattle.plain_rows.specs.Plain.{operation_of, unary_of, binary_of}
+use Rattle.prelude.specs.Kit.{set, replicate as repeated, and-false, or-false}
+use Rattle.plain_rows.proofs.Sets.{none_in, with_in}
+use Rattle.plain_rows.specs.Plain.{set_of, operation_of, unary_of, binary_of}
 use Rattle.plain_rows.specs.Parts.{retain_rows, release_rows, leaf_part, handing}
 use Rattle.plain_rows.specs.Parts.{below}
-use Rattle.annotate_rows.proofs.Names.{dies, and_false}
-
-or_none : (b : Bool) → b || false ≡ b
-or_none true = refl
-or_none false = refl
+use Rattle.annotate_rows.proofs.Names.{dies}
 
 among_split : (us : List Atom) (A : Set) (y : ℕ) → among us A y ≡ among us empty y || A y
 unfolding among
@@ -46,7 +44,7 @@ module _ (Γ : NameDepths) where
   dying_arrays U W A h = ap members (fun_ext (λ y. go y (h y)))
     where
       go : (y : ℕ) → (is_array Γ y ≡ false) ⊎ (U y ≡ W y) → dies Γ U A y ≡ dies Γ W A y
-      go y (inl e) = rw (e, and_false (U y), and_false (W y))
+      go y (inl e) = rw (e, and-false (U y), and-false (W y))
       go y (inr e) = rw e
 
   -- where the second atom is a number it is not released
@@ -64,11 +62,11 @@ module _ (Γ : NameDepths) where
       go (number z) h y = inr refl
       go (name z) h y = named z y h (ℕ_discrete z y)
 
-  pub all_read : (x : ℕ) (a b : Atom) (A N O T U : Set) → N ≡ empty → O ≡ only x ∪ N → T ≡ is b ∪ O → U ≡ is a ∪ T →
-      dying Γ (below 256 U) A ≡ dying Γ (is a ∪ is b ∪ only x) A
-  all_read x a b A N O T U n o t u =
-      dying_near U A ∙ rw (u, t, o, n) (ap (λ (S : Set). dying Γ (is a ∪ is b ∪ S) A) (fun_ext (λ y. or_none (eqb x
-      y))))
+  pub all_read : (x : ℕ) (a b : Atom) (A T U : Set) → T ≡ is b ∪ set_of (set (repeated 256 false) x true) →
+      U ≡ is a ∪ T → x < 256 → dying Γ (below 256 U) A ≡ dying Γ (is a ∪ is b ∪ only x) A
+  all_read x a b A T U t u h =
+      dying_near U A ∙ rw (u, t, with_in (repeated 256 false) x (omega arith), none_in)
+      (ap (λ (S : Set). dying Γ (is a ∪ is b ∪ S) A) (fun_ext (λ y. or-false (eqb x y))))
 
 -- ---- the lines of leaves
 

@@ -1,5 +1,5 @@
 -- The arguments of a call by their places, and the names among them from the highest down.
-use Rattle.std.specs.Prelude.{Bool, true, false, cond, List, [], ◌∷◌, ℕ, ◌+◌, pos, ltb, leb}
+use Rattle.std.specs.Prelude.{Bool, true, false, cond, List, [], ◌∷◌, ℕ, ◌+◌, pos, ltb, leb, Option, Some, None}
 use Rattle.semantics.specs.Code.{Atom, number, name}
 
 -- an atom where it counts; else the number 0, which names nothing
@@ -17,3 +17,8 @@ unfoldable pub highest : ℕ → ℕ → List Atom → ℕ
 unfolding higher
 highest x bound [] = higher (name x) bound 0
 highest x bound (a ∷ us) = higher a bound (highest x bound us)
+
+-- a name and 1; 0 for none
+abbrev pub place_of : Option ℕ → ℕ
+place_of None = 0
+place_of (Some y) = y + 1

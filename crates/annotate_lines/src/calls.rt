@@ -7,97 +7,54 @@ ghost use Rattle.semantics.specs.Annotate.{dying, handed_again};
 ghost use Rattle.plain_rows.specs.Plain.{set_of, meant, placed, atoms_at};
 ghost use Rattle.plain_rows.specs.Parts.{depth_in, retain_rows, release_rows, leaf_part};
 ghost use Rattle.annotate_rows.specs.Wrote.{Wrote, Room};
-ghost use Rattle.annotate_lines.specs.Calls.{counted, higher, highest};
+ghost use Rattle.annotate_lines.specs.Calls.{counted, higher, highest, place_of};
 
 use crate::put_atoms;
 use annotate_rows::{put_row, release_one, retain_atom};
 use kinds::Atom;
 
-// The argument at place i, if function f borrows it; else the number 0.
-fn read_at(
-    operands: &[u8],
-    rows: &plain_rows::Rows,
-    table: &[[bool; 8]; 32],
-    f: u8,
-    at: usize,
-    i: usize,
-) -> Atom
-    requires { (at ≤ 4096) × (i < 256) }
-    ensures { meant result ≡ counted (borrows table.now f i)
-        (meant (placed operands.now (get_or rows.now (at + i) 0))) }
+// The atom of a row, if it counts; else the number 0.
+fn counted_at(operands: &[u8], rows: &plain_rows::Rows, at: usize, counts: bool) -> Atom
+    ensures { meant result ≡ counted counts (meant (placed operands.now (get_or rows.now at 0))) }
 {
-    if plain_rows::is_borrowed(table, f, i) {
-        let place = plain_rows::row_at(rows, at + i);
-        return plain_rows::atom_of(operands, place);
+    if counts {
+        plain_rows::atom_of(operands, plain_rows::row_at(rows, at))
+    } else {
+        Atom::Number(0)
     }
-    Atom::Number(0)
 }
 
-// The argument at place i, if function f owns it; else the number 0.
-fn owned_at(
-    operands: &[u8],
-    rows: &plain_rows::Rows,
-    table: &[[bool; 8]; 32],
-    f: u8,
-    at: usize,
-    i: usize,
-) -> Atom
-    requires { (at ≤ 4096) × (i < 256) }
-    ensures { meant result ≡ counted (not (borrows table.now f i))
-        (meant (placed operands.now (get_or rows.now (at + i) 0))) }
-{
-    if plain_rows::is_borrowed(table, f, i) {
-        return Atom::Number(0);
-    }
-    let place = plain_rows::row_at(rows, at + i);
-    plain_rows::atom_of(operands, place)
-}
-
-// A set joined with the names that a call reads.
-fn with_read(
+// Joins a set with the names that a call reads.
+fn join_read(
     operands: &[u8],
     rows: &plain_rows::Rows,
     table: &[[bool; 8]; 32],
     f: u8,
     at: usize,
     m: u8,
-    live: [bool; 256],
-) -> [bool; 256]
+    live: &mut [bool; 256],
+)
     requires { at ≤ 4096 }
-    ensures { set_of result ≡ among (leaf_reads (borrows table.now) (call f)
-        (atoms_at operands.now rows.now at m)) (set_of live) }
+    ensures { set_of live.new ≡ among (leaf_reads (borrows table.now) (call f)
+        (atoms_at operands.now rows.now at m)) (set_of live.old) }
 {
-    let mut names = live;
-    let mut i = m as usize;
-    while 0 < i {
-        i = i - 1;
-        let a = read_at(operands, rows, table, f, at, i);
-        let u = plain_rows::member_of(a, &names);
-        names[u.name as usize] = u.member;
+    for i in (0..m as usize).rev() {
+        let a = counted_at(operands, rows, at + i, plain_rows::is_borrowed(table, f, i));
+        plain_rows::add(live, a);
     }
-    names
 }
 
-// The name of an atom and 1, if it is below a bound and that is more than n; else n.
-fn higher(a: Atom, bound: usize, n: usize) -> usize
-    ensures { result ≡ higher (meant a) bound n }
+// The name of an atom, if it is below a bound and above the highest so far; else that one.
+fn higher(a: Atom, bound: usize, found: Option<u8>) -> Option<u8>
+    ensures { place_of result ≡ higher (meant a) bound (place_of found) }
 {
     match a {
-        Atom::Number(_) => n,
-        Atom::Name(y) => {
-            let above = y as usize + 1;
-            if n < above {
-                if above <= bound {
-                    return above;
-                }
-                return n;
-            }
-            n
-        }
+        Atom::Name(y) if (y as usize) < bound && found < Some(y) => Some(y),
+        _ => found,
     }
 }
 
-// The highest name below a bound, of x and those that a call reads, and 1; 0 if there is none.
+// The highest name below a bound, of x and those that a call reads.
 fn highest_read(
     operands: &[u8],
     rows: &plain_rows::Rows,
@@ -107,20 +64,17 @@ fn highest_read(
     m: u8,
     x: u8,
     bound: usize,
-) -> usize
+) -> Option<u8>
     requires { at ≤ 4096 }
-    ensures { result ≡ highest x bound (leaf_reads (borrows table.now) (call f)
+    ensures { place_of result ≡ highest x bound (leaf_reads (borrows table.now) (call f)
         (atoms_at operands.now rows.now at m)) }
 {
-    let mut n = higher(Atom::Name(x), bound, 0);
-    let mut i = m as usize;
-    while 0 < i {
-        i = i - 1;
-        let a = read_at(operands, rows, table, f, at, i);
-        let h = higher(a, bound, n);
-        n = h;
+    let mut name = higher(Atom::Name(x), bound, None);
+    for i in (0..m as usize).rev() {
+        let a = counted_at(operands, rows, at + i, plain_rows::is_borrowed(table, f, i));
+        name = higher(a, bound, name);
     }
-    n
+    name
 }
 
 // Releases, lowest first, of x and of the names that a call reads, where they are arrays and not live.
@@ -145,19 +99,18 @@ fn release_read(
         (atoms_at operands.now rows.now at m)) (only x)) (set_of live.now))) }
 {
     let mut v = w;
-    let mut n = highest_read(operands, rows, table, f, at, m, x, 256);
-    while 0 < n {
-        let y = n - 1;
-        let l = live[y];
-        let u = release_one(ks, os, depths, true, l, y, v);
-        v = u;
-        let h = highest_read(operands, rows, table, f, at, m, x, y);
-        n = h;
+    let mut next = highest_read(operands, rows, table, f, at, m, x, 256);
+    // (a `while`: each name that is read says which comes next)
+    while let Some(name) = next {
+        let y = name as usize;
+        v = release_one(ks, os, depths, true, live[y], y, v);
+        next = highest_read(operands, rows, table, f, at, m, x, y);
     }
     v
 }
 
-// The retains of the arguments that a call hands over.
+// The retains of the arguments that a call hands over. Each is live for those before it. The loop is that of
+// `put_retains` over other atoms, which given by a closure would want a contract longer than the loop.
 fn retain_owned(
     ks: &mut [u8],
     os: &mut [i64],
@@ -168,25 +121,25 @@ fn retain_owned(
     f: u8,
     at: usize,
     m: u8,
-    live: [bool; 256],
+    later: &mut [bool; 256],
     w: usize,
 ) -> usize
     requires { (at ≤ 4096) × Room ks.old os.old w }
     ensures { Wrote ks.old os.old ks.new os.new w result
         (retain_rows (handed_again (depth_in depths.now)
         (leaf_hands (borrows table.now) (call f)
-        (atoms_at operands.now rows.now at m)) (set_of live))) }
+        (atoms_at operands.now rows.now at m)) (set_of later.old))) }
 {
-    let mut later = live;
     let mut v = w;
-    let mut i = m as usize;
-    while 0 < i {
-        i = i - 1;
-        let a = owned_at(operands, rows, table, f, at, i);
-        let n = retain_atom(ks, os, depths, a, &later, v);
-        let u = plain_rows::member_of(a, &later);
-        later[u.name as usize] = u.member;
-        v = n;
+    for i in (0..m as usize).rev() {
+        let a = counted_at(
+            operands,
+            rows,
+            at + i,
+            !plain_rows::is_borrowed(table, f, i),
+        );
+        v = retain_atom(ks, os, depths, a, later, v);
+        plain_rows::add(later, a);
     }
     v
 }
@@ -214,7 +167,9 @@ pub fn put_call(
     let s = release_read(ks, os, depths, operands, rows, table, f, at, m, x, after, w);
     let t = put_atoms(ks, os, operands, rows, at, m, s);
     let u = put_row(ks, os, t, kinds::CALL, x as u32 + 256 * (f as u32));
-    let live = *after;
-    let later = with_read(operands, rows, table, f, at, m, live);
-    retain_owned(ks, os, depths, operands, rows, table, f, at, m, later, u)
+    let mut later = *after;
+    join_read(operands, rows, table, f, at, m, &mut later);
+    retain_owned(
+        ks, os, depths, operands, rows, table, f, at, m, &mut later, u,
+    )
 }

@@ -1,5 +1,5 @@
 // The rows of lines without trees and of a tree's end, written towards the front of the lent arrays.
-#![tactic(auto)]
+#![tactic(auto, using(annotate_rows::proofs::Rows::lower))]
 
 ghost use Rattle.std.specs.Prelude.{◌≡◌, ◌&&◌, [], ◌∷◌, map, ◌+◌, ◌-◌, ◌≤◌, ltb};
 ghost use Rattle.semantics.specs.Basics.{with_if};
@@ -18,7 +18,7 @@ use kinds::Atom;
 
 pub mod calls;
 
-// The retains of the m atoms from a row on, all handed over.
+// The retains of the m atoms from a row on, all handed over. Each atom is live for those before it.
 fn put_retains(
     ks: &mut [u8],
     os: &mut [i64],
@@ -27,25 +27,20 @@ fn put_retains(
     rows: &plain_rows::Rows,
     at: usize,
     m: u8,
-    live: [bool; 256],
+    later: &mut [bool; 256],
     w: usize,
 ) -> usize
     requires { (at ≤ 4096) × Room ks.old os.old w }
     ensures { Wrote ks.old os.old ks.new os.new w result
         (retain_rows (handed_again (depth_in depths.now)
-        (atoms_at operands.now rows.now at m) (set_of live))) }
+        (atoms_at operands.now rows.now at m) (set_of later.old))) }
 {
-    let mut later = live;
     let mut v = w;
-    let mut i = m as usize;
-    while 0 < i {
-        i = i - 1;
+    for i in (0..m as usize).rev() {
         let place = plain_rows::row_at(rows, at + i);
         let a = plain_rows::atom_of(operands, place);
-        let n = retain_atom(ks, os, depths, a, &later, v);
-        let u = plain_rows::member_of(a, &later);
-        later[u.name as usize] = u.member;
-        v = n;
+        v = retain_atom(ks, os, depths, a, later, v);
+        plain_rows::add(later, a);
     }
     v
 }
@@ -65,13 +60,9 @@ pub fn put_atoms(
         (map atom_row (atoms_at operands.now rows.now at m)) }
 {
     let mut v = w;
-    let mut i = m as usize;
-    while 0 < i {
-        i = i - 1;
+    for i in (0..m as usize).rev() {
         let place = plain_rows::row_at(rows, at + i);
-        let a = plain_rows::atom_of(operands, place);
-        let n = put_atom(ks, os, v, a);
-        v = n;
+        v = put_atom(ks, os, v, plain_rows::atom_of(operands, place));
     }
     v
 }
@@ -102,14 +93,13 @@ fn put_reads(
         (release_rows (dying (depth_in depths.now) (is (meant a) ∪ is (meant b) ∪ only x)
         (set_of live.now))) }
 {
-    let d = depth_of_atom(depths, b);
-    if d == 0 {
+    if depth_of_atom(depths, b) == 0 {
         return release_both(ks, os, depths, x, a, live, w);
     }
-    let none = plain_rows::none();
-    let one = plain_rows::with(none, x);
-    let two = plain_rows::add(one, b);
-    let used = plain_rows::add(two, a);
+    let mut used = [false; 256];
+    used[x as usize] = true;
+    plain_rows::add(&mut used, b);
+    plain_rows::add(&mut used, a);
     put_releases(ks, os, depths, 256, &used, live, w)
 }
 
@@ -118,10 +108,7 @@ fn binary_kind(kind: u8) -> u8
     ensures { result ≡ leaf_kind (binary_of kind) }
 {
     match kind {
-        kinds::SUM => kinds::SUM,
-        kinds::DIFFERENCE => kinds::DIFFERENCE,
-        kinds::INDEX => kinds::INDEX,
-        kinds::REPLICATE => kinds::REPLICATE,
+        kinds::SUM | kinds::DIFFERENCE | kinds::INDEX | kinds::REPLICATE => kind,
         _ => kinds::LESS,
     }
 }
@@ -140,9 +127,10 @@ fn retain_indexed(
         (retain_rows (with_if (is_pending (binary_of kind) && ltb 0 (depth_in depths.now x)) x [])) }
 {
     if kind == kinds::INDEX {
-        return put_retain(ks, os, depths, x, w);
+        put_retain(ks, os, depths, x, w)
+    } else {
+        w
     }
-    w
 }
 
 // A line that reads two atoms.
@@ -167,8 +155,7 @@ pub fn put_binary(
     let t = retain_indexed(ks, os, depths, x, kind, s);
     let u = put_atom(ks, os, t, b);
     let v = put_atom(ks, os, u, a);
-    let k = binary_kind(kind);
-    put_row(ks, os, v, k, x as u32)
+    put_row(ks, os, v, binary_kind(kind), x as u32)
 }
 
 // The kind of a line that reads one atom.
@@ -201,8 +188,7 @@ pub fn put_unary(
 {
     let u = release_both(ks, os, depths, x, a, after, w);
     let v = put_atom(ks, os, u, a);
-    let k = unary_kind(kind);
-    put_row(ks, os, v, k, x as u32)
+    put_row(ks, os, v, unary_kind(kind), x as u32)
 }
 
 // A literal: a row of the kind and the number n, and the m atoms from a row on, all handed over.
@@ -228,8 +214,8 @@ pub fn put_handing(
     let s = put_release(ks, os, depths, x, after, w);
     let t = put_atoms(ks, os, operands, rows, at, m, s);
     let u = put_row(ks, os, t, kind, n);
-    let live = *after;
-    put_retains(ks, os, depths, operands, rows, at, m, live, u)
+    let mut later = *after;
+    put_retains(ks, os, depths, operands, rows, at, m, &mut later, u)
 }
 
 // A tree's end, whose atom is handed over.

@@ -1,6 +1,6 @@
 -- Laws of the rows of loops: one for each way out of what writes them.
-use Rattle.prelude.specs.Kit.{ℕ, ◌+◌, arith, true, false, Bool, ◌&&◌, ◌||◌, ◌≡◌, refl, ◌∙◌, ap, fun_ext, ⊎_elim, []}
-use Rattle.prelude.specs.Kit.{◌∷◌, ◌++◌, eqb, ltb, tag_of, OneOf}
+use Rattle.prelude.specs.Kit.{ℕ, ◌+◌, arith, true, false, Bool, ◌&&◌, ◌||◌, ◌≡◌, refl, ◌∙◌, ap, fun_ext, []}
+use Rattle.prelude.specs.Kit.{◌∷◌, ◌++◌, eqb, ltb, List, map, sym, or-false, ◌≤◌, ◌<◌, ℕ_discrete}
 use Rattle.semantics.specs.Basics.{with_if}
 use Rattle.semantics.specs.Kinds.{Loop, mapping, filtering, reducing, rewriting, loop_kind, loop_reads}
 use Rattle.semantics.specs.Code as C
@@ -14,13 +14,16 @@ use Rattle.plain_rows.specs.Walk.{since}
 use Rattle.kinds.specs.declared.Atom.{Atom}
 use Rattle.plain_rows.specs.declared.Line.{Line}
 use Rattle.plain_rows.specs.declared.Line.TheVariants as L
-use Rattle.plain_rows.specs.contracts.Line.{the_type}
 use Rattle.plain_rows.proofs.Rows.{no_reduce}
 use Rattle.annotate_loops.specs.Loops.{read_of, written_line, opening_of, closing_of}
 
 -- ---- lines that are no loops
 
-not_loop : (l : Line) → OneOf (0 ∷ 1 ∷ 2 ∷ 3 ∷ 4 ∷ []) (tag_of the_type l) → (P : Line → Type 0) →
+-- no loop
+abbrev pub NotLoop : Line → Type 0
+NotLoop l = (x kind y z : ℕ) (a b : Atom) → l ≡ L.Loop x kind y z a b → ⊥
+
+not_loop : (l : Line) → NotLoop l → (P : Line → Type 0) →
     ((x kind : ℕ) (a : Atom) → P (L.Unary x kind a)) → ((x kind : ℕ) (a b : Atom) → P (L.Binary x kind a b)) →
     ((x f m : ℕ) → P (L.Call x f m)) → ((x d m : ℕ) → P (L.Literal x d m)) → ((x : ℕ) (g : Atom) → P (L.If x g)) → P l
 not_loop (L.Unary x kind a) h P u b c l i = u x kind a
@@ -28,11 +31,9 @@ not_loop (L.Binary x kind a e) h P u b c l i = b x kind a e
 not_loop (L.Call x f m) h P u b c l i = c x f m
 not_loop (L.Literal x d m) h P u b c l i = l x d m
 not_loop (L.If x g) h P u b c l i = i x g
-not_loop (L.Loop x kind y z a e) h P u b c l i =
-    absurd (⊎_elim (λ q. omega arith) (⊎_elim (λ q. omega arith) (⊎_elim (λ q. omega arith)
-    (⊎_elim (λ q. omega arith) (λ q. omega arith)))) h)
+not_loop (L.Loop x kind y z a e) h P u b c l i = absurd (h x kind y z a e refl)
 
-module _ (Γ : NameDepths) (l : Line) (h : OneOf (0 ∷ 1 ∷ 2 ∷ 3 ∷ 4 ∷ []) (tag_of the_type l)) where
+module _ (Γ : NameDepths) (l : Line) (h : NotLoop l) where
   pub no_opening : (T : Set) → [] ≡ opening_of Γ T l
   unfolding opening_of
   no_opening T = not_loop l h (λ i. [] ≡ opening_of Γ T i) (λ x kind a. refl) (λ x kind a b. refl) (λ x f m. refl)
@@ -45,17 +46,13 @@ module _ (Γ : NameDepths) (l : Line) (h : OneOf (0 ∷ 1 ∷ 2 ∷ 3 ∷ 4 ∷ 
 
 -- ---- the opening of a pass
 
-or_none : (b : Bool) → b ≡ b || false
-or_none true = refl
-or_none false = refl
-
 module _ (Γ : NameDepths) (T : Set) where
   opening_of_one : (y : ℕ) →
       retain_rows (with_if (is_array Γ y) y []) ++ release_rows (dying Γ (only y) T)
       ≡ retain_rows (with_if (is_array Γ y) y []) ++ release_rows (dying Γ (just (y ∷ [])) T)
   opening_of_one y =
       ap (λ (S : Set). retain_rows (with_if (is_array Γ y) y []) ++ release_rows (dying Γ S T))
-      (fun_ext (λ v. or_none (eqb y v)))
+      (fun_ext (λ v. sym (or-false (eqb y v))))
 
   pub opening_one : (kind y z : ℕ) → (kind ≡ 20 → ⊥) →
       retain_rows (with_if (is_array Γ y) y []) ++ release_rows (dying Γ (only y) T)
@@ -71,7 +68,23 @@ module _ (Γ : NameDepths) (T : Set) where
   unfolding arrays
   opening_two y z =
       ap (λ (S : Set). retain_rows (with_if (is_array Γ z) z []) ++ release_rows (dying Γ S T))
-      (fun_ext (λ v. ap (λ (b : Bool). eqb y v || b) (or_none (eqb z v))))
+      (fun_ext (λ v. ap (λ (b : Bool). eqb y v || b) (sym (or-false (eqb z v)))))
+
+-- ---- a loop's own rows
+
+-- the row of a reduce's second atom
+abbrev pub seconds : Loop → C.Atom → List C.Row
+seconds mapping b = []
+seconds filtering b = []
+seconds reducing b = C.atom_row b ∷ []
+seconds rewriting b = []
+
+pub own_rows : (k : Loop) (n : ℕ) (a b : C.Atom) →
+    C.row (loop_kind k) n ∷ (C.atom_row a ∷ seconds k b) ≡ C.row (loop_kind k) n ∷ map C.atom_row (of_loop k a b)
+own_rows mapping n a b = refl
+own_rows filtering n a b = refl
+own_rows reducing n a b = refl
+own_rows rewriting n a b = refl
 
 -- ---- the retain of a start, and the releases after a loop
 
@@ -79,6 +92,14 @@ pub start_one : (Γ : NameDepths) (a : C.Atom) (S : Set) → handed_one Γ a S �
 unfolding handed_one handed_again among
 start_one Γ (C.number z) S = refl
 start_one Γ (C.name x) S = refl
+
+-- the loops that are handed something
+pub hands_over : (P : Loop → Type 0) (kind : ℕ) → 20 ≤ kind → kind < 22 → P reducing → P rewriting → P (loop_of kind)
+hands_over P kind h g r w = go (ℕ_discrete kind 20)
+  where
+    go : Dec (kind ≡ 20) → P (loop_of kind)
+    go (yes e) = rw e r
+    go (no f) = let e : kind ≡ 21 = omega (arith, f) in rw e w
 
 used_below : (x : ℕ) (A S : Set) → below x (A ∪ S) ≡ below x (A ∪ below x S)
 used_below x A S = fun_ext (λ y. go (ltb y x) (A y) (S y))
@@ -127,7 +148,7 @@ module _ (Γ : NameDepths) (p : ℕ) (M : Marks) (A : Set) where
       (f ∙ ap (λ (m : ℕ). p + 1 + m) e)
       ∙ ap loop_kind (by_array Γ x (loop_of kind) (meant a) (meant b) _ A))
 
-  pub others_written : (l : Line) → OneOf (0 ∷ 1 ∷ 2 ∷ 3 ∷ 4 ∷ []) (tag_of the_type l) → l ≡ written_line Γ p M A l
+  pub others_written : (l : Line) → NotLoop l → l ≡ written_line Γ p M A l
   unfolding written_line
   others_written l h =
       not_loop l h (λ i. i ≡ written_line Γ p M A i) (λ x kind a. refl) (λ x kind a b. refl) (λ x f m. refl)

@@ -1,5 +1,5 @@
 // The rows of loops: those after a loop, its own, and those that open its tree.
-#![tactic(auto)]
+#![tactic(auto, using(annotate_rows::proofs::Rows::lower))]
 
 ghost use Rattle.std.specs.Prelude.{◌≡◌, [], ◌∷◌, map, ◌+◌, ◌*◌, ◌≤◌};
 ghost use Rattle.semantics.specs.Kinds.{loop_kind, loop_hands, packed_names};
@@ -22,13 +22,11 @@ pub mod rewrites;
 fn read_of(kind: u8, a: Atom, b: Atom) -> Atom
     ensures { meant result ≡ read_of (loop_of kind) (meant a) (meant b) }
 {
-    if kind == kinds::REDUCE {
-        return b;
+    match kind {
+        kinds::REDUCE => b,
+        kinds::REWRITE => Atom::Number(0),
+        _ => a,
     }
-    if kind == kinds::REWRITE {
-        return Atom::Number(0);
-    }
-    a
 }
 
 // The second atom of a loop, or a number where it has none.
@@ -59,11 +57,17 @@ pub fn close_loop(
         (set_of live.now) l) }
 {
     match l {
-        Line::Loop(x, kind, _, _, a, b) => {
-            let v = put_release(ks, os, depths, x, live, w);
-            let array = read_of(kind, a, b);
+        Line::Loop {
+            name,
+            kind,
+            first,
+            second,
+            ..
+        } => {
+            let v = put_release(ks, os, depths, name, live, w);
+            let array = read_of(kind, first, second);
             let row = p + 1 + plain_rows::loop_size(kind);
-            put_used(ks, os, depths, cur, row, x as usize, array, live, v)
+            put_used(ks, os, depths, cur, row, name as usize, array, live, v)
         }
         _ => w,
     }
@@ -87,10 +91,11 @@ fn open_pass(
 {
     if kind == kinds::REDUCE {
         let v = release_pair(ks, os, depths, z, y, live, w);
-        return put_retain(ks, os, depths, z, v);
+        put_retain(ks, os, depths, z, v)
+    } else {
+        let v = put_release(ks, os, depths, y, live, w);
+        put_retain(ks, os, depths, y, v)
     }
-    let v = put_release(ks, os, depths, y, live, w);
-    put_retain(ks, os, depths, y, v)
 }
 
 // The operand of a loop's row: its name, and the names of a pass.
@@ -99,9 +104,20 @@ fn loop_operand(x: u8, kind: u8, y: u8, z: u8) -> u32
 {
     let n = x as u32 + 256 * (y as u32);
     if kind == kinds::REDUCE {
-        return n + 65536 * (z as u32);
+        n + 65536 * (z as u32)
+    } else {
+        n
     }
-    n
+}
+
+// The kind of a loop's row.
+fn loop_kind(kind: u8) -> u8
+    ensures { result ≡ loop_kind (loop_of kind) }
+{
+    match kind {
+        kinds::FILTER | kinds::REDUCE | kinds::REWRITE => kind,
+        _ => kinds::MAP,
+    }
 }
 
 // A loop's row of operand n, and its atoms.
@@ -110,19 +126,13 @@ fn put_own(ks: &mut [u8], os: &mut [i64], kind: u8, n: u32, a: Atom, b: Atom, w:
     ensures { Wrote ks.old os.old ks.new os.new w result
         (row (loop_kind (loop_of kind)) n ∷ map atom_row (of_loop (loop_of kind) (meant a) (meant b))) }
 {
-    if kind == kinds::REDUCE {
-        let u = put_atom(ks, os, w, b);
-        let v = put_atom(ks, os, u, a);
-        return put_row(ks, os, v, kinds::REDUCE, n);
-    }
-    let v = put_atom(ks, os, w, a);
-    if kind == kinds::FILTER {
-        return put_row(ks, os, v, kinds::FILTER, n);
-    }
-    if kind == kinds::REWRITE {
-        return put_row(ks, os, v, kinds::REWRITE, n);
-    }
-    put_row(ks, os, v, kinds::MAP, n)
+    let u = if kind == kinds::REDUCE {
+        put_atom(ks, os, w, b)
+    } else {
+        w
+    };
+    let v = put_atom(ks, os, u, a);
+    put_row(ks, os, v, loop_kind(kind), n)
 }
 
 // A loop's own rows and those that open its tree, at whose start the names are live.
@@ -139,10 +149,17 @@ pub fn open_loop(
         (opening_of (depth_in depths.now) (set_of live.now) l) }
 {
     match l {
-        Line::Loop(x, kind, y, z, a, b) => {
-            let v = open_pass(ks, os, depths, kind, y, z, live, w);
-            let n = loop_operand(x, kind, y, z);
-            put_own(ks, os, kind, n, a, b, v)
+        Line::Loop {
+            name,
+            kind,
+            first_name,
+            second_name,
+            first,
+            second,
+        } => {
+            let v = open_pass(ks, os, depths, kind, first_name, second_name, live, w);
+            let n = loop_operand(name, kind, first_name, second_name);
+            put_own(ks, os, kind, n, first, second, v)
         }
         _ => w,
     }
@@ -163,11 +180,8 @@ pub fn retain_handed(
         (retain_rows (handed_again (depth_in depths.now) (loop_hands (loop_of kind) (meant a ∷ []))
         (set_of later.now))) }
 {
-    if kind == kinds::REDUCE {
-        return retain_atom(ks, os, depths, a, later, w);
+    match kind {
+        kinds::REDUCE | kinds::REWRITE => retain_atom(ks, os, depths, a, later, w),
+        _ => w,
     }
-    if kind == kinds::REWRITE {
-        return retain_atom(ks, os, depths, a, later, w);
-    }
-    w
 }

@@ -16,10 +16,7 @@ use plain_rows::Line;
 fn is_outer(cur: &[u16; 256], row: usize, x: u8, y: u8) -> bool
     ensures { result ≡ below x (since row (marks_of cur.now)) y }
 {
-    if y < x {
-        return is_since(cur, row, y as usize);
-    }
-    false
+    y < x && is_since(cur, row, y as usize)
 }
 
 // Whether a map that binds x rewrites its array: numbers, for numbers, neither live afterwards nor used in its tree.
@@ -37,21 +34,10 @@ fn is_rewritten(
     match array {
         Atom::Number(_) => false,
         Atom::Name(y) => {
-            let d = depth_at(depths, y as usize);
-            if d == 1 {
-                let e = depth_at(depths, x as usize);
-                if e == 1 {
-                    if live[y as usize] {
-                        return false;
-                    }
-                    if is_outer(cur, row, x, y) {
-                        return false;
-                    }
-                    return true;
-                }
-                return false;
-            }
-            false
+            depth_at(depths, y as usize) == 1
+                && depth_at(depths, x as usize) == 1
+                && !live[y as usize]
+                && !is_outer(cur, row, x, y)
         }
     }
 }
@@ -70,15 +56,9 @@ fn written_kind(
         (below x (since row (marks_of cur.now))) (set_of live.now)) }
 {
     match kind {
-        kinds::FILTER => kinds::FILTER,
-        kinds::REDUCE => kinds::REDUCE,
-        kinds::REWRITE => kinds::REWRITE,
-        _ => {
-            if is_rewritten(depths, cur, row, x, a, live) {
-                return 21;
-            }
-            13
-        }
+        kinds::FILTER | kinds::REDUCE | kinds::REWRITE => kind,
+        _ if is_rewritten(depths, cur, row, x, a, live) => kinds::REWRITE,
+        _ => kinds::MAP,
     }
 }
 
@@ -95,10 +75,24 @@ pub fn written_line(
         (set_of live.now) l }
 {
     match l {
-        Line::Loop(x, kind, y, z, a, b) => {
+        Line::Loop {
+            name,
+            kind,
+            first_name,
+            second_name,
+            first,
+            second,
+        } => {
             let row = p + 1 + plain_rows::loop_size(kind);
-            let k = written_kind(depths, cur, row, x, kind, a, live);
-            Line::Loop(x, k, y, z, a, b)
+            let written = written_kind(depths, cur, row, name, kind, first, live);
+            Line::Loop {
+                name,
+                kind: written,
+                first_name,
+                second_name,
+                first,
+                second,
+            }
         }
         _ => l,
     }

@@ -1,6 +1,6 @@
 -- Laws of the rows of last uses in an array, and of the live set beside them.
-use Rattle.prelude.specs.Kit.{ℕ, ◌≤◌, ◌+◌, ◌<◌, ◌-◌, arith, ℕ_discrete, true, false, Bool, cond, ◌≡◌, refl, ◌∙◌, sym}
-use Rattle.prelude.specs.Kit.{ap, fun_ext, List, ◌∷◌, eqb, ℤ, length, get_or, set, length-set, get_or-set_other}
+use Rattle.prelude.specs.Kit.{ℕ, ◌≤◌, ◌+◌, ◌<◌, ◌-◌, arith, ℕ_discrete, false, Bool, cond, ◌≡◌, refl, ◌∙◌, sym}
+use Rattle.prelude.specs.Kit.{ap, fun_ext, List, ◌∷◌, eqb, length, get_or, set, get_or-set_other}
 use Rattle.prelude.specs.Kit.{get_or-set_same, ne_eqb, lt-ltb, eq-eqb, le-ltb}
 use Rattle.semantics.specs.Basics.{updated}
 use Rattle.semantics.specs.Code as C
@@ -8,7 +8,7 @@ use Rattle.semantics.specs.Live.{Set, is, ◌∪◌, ◌∖◌, among}
 use Rattle.plain_rows.specs.Plain.{set_of, meant, placed, atoms_at, note}
 use Rattle.kinds.specs.declared.Atom.{Atom}
 use Rattle.plain_rows.proofs.Atoms.{atoms_more, atoms_none, atoms_all}
-use Rattle.plain_rows.proofs.Sets.{set_same, with_in, without_in}
+use Rattle.plain_rows.proofs.Sets.{without_in}
 use Rattle.plain_rows.specs.Marks.{Marks, marked, marks_of}
 use Rattle.plain_rows.specs.Walk.{then_end, unmarked, unmarked_all}
 use Rattle.annotate_marks.specs.Took.{Took}
@@ -29,11 +29,6 @@ number_none z v M = refl
 pub took_none : (z : _) (notes : List ℕ) (r : ℕ) (s : List Bool) (c : List ℕ) → length c ≡ 256 →
     Took (is (C.number z) ∪ set_of s) (unmarked notes r (C.number z) (marks_of c)) s c
 took_none z notes r s c l = record { names = refl; marks = sym (number_none z (note notes r) (marks_of c)); long = l }
-
--- a name written as it is
-pub took_same : {A : Set} {N : Marks} {c : List ℕ} (s : List Bool) (i : ℕ) → Took A N s c →
-    Took A N (set s i (get_or s i false)) c
-took_same s i t = rw (set_same s i) t
 
 -- ---- atoms, from the last to the first
 
@@ -69,37 +64,19 @@ module _ (w rows notes : List ℕ) (at : ℕ) where
 
 -- ---- a name bound, and names taken back one after the other
 
--- the same, and the names are 256
-pub record Taking (A : Set) (M : Marks) (s : List Bool) (c : List ℕ) : Type 0 where
-  pub took : Took A M s c
-  pub wide : length s ≡ 256
+pub take_start : (s : List Bool) (c : List ℕ) (x : ℕ) → x < length s → length c ≡ 256 →
+    Took (set_of s ∖ x) (marks_of c) (set s x false) c
+take_start s c x h l = record { names = without_in s x h; marks = refl; long = l }
 
-pub take_start : (s : List Bool) (c : List ℕ) (x : ℕ) → x < 256 → length s ≡ 256 → length c ≡ 256 →
-    Taking (set_of s ∖ x) (marks_of c) (set s x false) c
-take_start s c x g h l = record {
-  took = record { names = without_in s x (omega arith); marks = refl; long = l };
-  wide = length-set s x false ∙ h;
+-- an atom taken back after others
+pub took_then : (notes : List ℕ) (r : ℕ) (a : C.Atom) {A : Set} {M : Marks} {s s' : List Bool} {c c' : List ℕ} →
+    Took A M s c → Took (is a ∪ set_of s) (unmarked notes r a (marks_of c)) s' c' →
+    Took (is a ∪ A) (unmarked notes r a M) s' c'
+took_then notes r a t u = record {
+  names = u.names ∙ ap (λ (S : Set). is a ∪ S) t.names;
+  marks = u.marks ∙ ap (unmarked notes r a) t.marks;
+  long = u.long;
 }
-
-module _ (notes : List ℕ) (r : ℕ) {A : Set} {M : Marks} {s : List Bool} {c : List ℕ} (t : Taking A M s c) where
-  pub take_number : (z : ℤ) → Taking (is (C.number z) ∪ A) (unmarked notes r (C.number z) M) s c
-  unfolding marked
-  take_number z = record {
-    took = record { names = t.took.names; marks = t.took.marks; long = t.took.long };
-    wide = t.wide;
-  }
-
-  pub take_name : (y v : ℕ) → y < 256 → v ≡ note notes r →
-      Taking (is (C.name y) ∪ A) (unmarked notes r (C.name y) M) (set s y true) (set c y v)
-  take_name y v g e = record {
-    took = record {
-      names = with_in s y (omega (arith, t.wide)) ∙ ap (λ (S : Set). is (C.name y) ∪ S) t.took.names;
-      marks = marks_set c y v (note notes r) (omega (arith, t.took.long)) e
-          ∙ ap (unmarked notes r (C.name y)) t.took.marks;
-      long = length-set c y v ∙ t.took.long;
-    };
-    wide = length-set s y true ∙ t.wide;
-  }
 
 pub took_all : (us : List C.Atom) {A B : Set} {N : Marks} {s : List Bool} {c : List ℕ} →
     Took (among us A) N s c → A ≡ B → Took (among us B) N s c

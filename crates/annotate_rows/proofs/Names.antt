@@ -1,18 +1,14 @@
 -- Laws of the names that are released and retained.
 use Rattle.prelude.specs.Kit.{ℕ, ◌≤◌, ◌+◌, ◌<◌, ◌-◌, suc, zero, arith, ℕ_discrete, true, false, Bool, ◌&&◌, not, ◌||◌}
 use Rattle.prelude.specs.Kit.{◌≡◌, refl, ◌∙◌, sym, ap, fun_ext, List, [], ◌∷◌, ◌++◌, eqb, ltb, ℤ, ne_eqb, lt-ltb}
-use Rattle.prelude.specs.Kit.{eq-eqb, le-ltb}
+use Rattle.prelude.specs.Kit.{eq-eqb, le-ltb, and-false, map-append, max, min, dec_lt}
 use Rattle.semantics.specs.Basics.{with_if}
 use Rattle.semantics.specs.Code.{number, name, Row, row}
 use Rattle.semantics.specs.Live.{Set, empty, only, ◌∪◌, members_from, members}
 use Rattle.semantics.specs.Annotate.{NameDepths, is_array, dying}
 use Rattle.plain_rows.specs.Parts.{below, retain_rows, release_rows, handed_one}
 use Rattle.annotate_rows.specs.Wrote.{Wrote}
-use Rattle.annotate_rows.proofs.Rows.{map_append, wrote_none, wrote_as}
-
-pub and_false : (b : Bool) → b && false ≡ false
-and_false true = refl
-and_false false = refl
+use Rattle.annotate_rows.proofs.Rows.{wrote_none, wrote_as}
 
 -- ---- releases
 
@@ -52,7 +48,7 @@ module _ (Γ : NameDepths) (used A : Set) where
       (dies Γ used A)))) (let e : suc (i - 1) ≡ i = omega arith in e)
       ∙ ap (λ (l : List ℕ). release_rows l) (with_if_append (dies Γ used A (i - 1)) (i - 1) (members_from (256 - i)
       i (dies Γ used A)))
-      ∙ map_append _ (with_if (dies Γ used A (i - 1)) (i - 1) []) (members_from (256 - i) i (dies Γ used A)))
+      ∙ map-append _ (with_if (dies Γ used A (i - 1)) (i - 1) []) (members_from (256 - i) i (dies Γ used A)))
 
   pub release_all : {k k₁ : List ℕ} {o o₁ : List ℤ} {w w₁ i : ℕ} → i ≤ 0 → Wrote k o k₁ o₁ w w₁ (releases_from Γ
       used A i) →
@@ -141,7 +137,7 @@ module _ (Γ : NameDepths) where
   dying_two x y A h =
       sym (ap (λ (l : List ℕ). release_rows l) (two_members 256 0 x y (λ z. is_array Γ z && not (A z)) (omega
       arith) h)
-      ∙ map_append _ (dying Γ (only x) A) (dying Γ (only y) A))
+      ∙ map-append _ (dying Γ (only x) A) (dying Γ (only y) A))
 
   pub dying_turned : (U W A : Set) → release_rows (dying Γ (U ∪ W) A) ≡ release_rows (dying Γ (W ∪ U) A)
   dying_turned U W A = ap (λ (S : Set). release_rows (dying Γ S A)) (fun_ext (λ z. go (U z) (W z)))
@@ -160,6 +156,24 @@ module _ (Γ : NameDepths) where
       go true = refl
       go false = refl
 
+  -- two names, by the higher and the lower
+  pub dying_pair : (x y : ℕ) (A : Set) {h l : ℕ} → (x ≡ y → ⊥) → h ≡ max x y → l ≡ min x y →
+      release_rows (dying Γ (only l) A) ++ release_rows (dying Γ (only h) A)
+      ≡ release_rows (dying Γ (only y ∪ only x) A)
+  dying_pair x y A {h} {l} n e f = go (dec_lt x y)
+    where
+      go : Dec (x < y) →
+          release_rows (dying Γ (only l) A) ++ release_rows (dying Γ (only h) A)
+          ≡ release_rows (dying Γ (only y ∪ only x) A)
+      go (yes p) =
+          let a : l ≡ x = omega arith in
+          let b : h ≡ y = omega arith in
+          rw (a, b) (dying_two x y A p ∙ dying_turned (only x) (only y) A)
+      go (no p) =
+          let a : l ≡ y = omega (arith, n, p) in
+          let b : h ≡ x = omega (arith, n, p) in
+          rw (a, b) (dying_two y x A (omega (arith, n, p)))
+
   pub dying_none : (A : Set) → [] ≡ dying Γ empty A
   unfolding dying members
   dying_none A = sym (nothing_from 256 0)
@@ -171,10 +185,10 @@ module _ (x : ℕ) where
 
   pub release_number : (u l : Bool) (e d : ℕ) → e ≡ d → e ≤ 0 → [] ≡ release_rows (with_if (u && (ltb 0 d && not l))
       x [])
-  release_number u l e d f h = rw (← f, le-ltb 0 e h, and_false u)
+  release_number u l e d f h = rw (← f, le-ltb 0 e h, and-false u)
 
   pub release_live : (u l : Bool) (d : ℕ) → l ≡ true → [] ≡ release_rows (with_if (u && (ltb 0 d && not l)) x [])
-  release_live u l d e = rw (e, and_false (ltb 0 d), and_false u)
+  release_live u l d e = rw (e, and-false (ltb 0 d), and-false u)
 
   pub release_on : (u l : Bool) (e d : ℕ) → u ≡ true → e ≡ d → 0 < e → l ≡ false →
       row 15 x ∷ [] ≡ release_rows (with_if (u && (ltb 0 d && not l)) x [])
@@ -200,7 +214,7 @@ module _ (Γ : NameDepths) where
 
   pub handed_off : (x : ℕ) (A : Set) → A x ≡ false → [] ≡ handed_one Γ (name x) A
   unfolding handed_one
-  handed_off x A e = rw (e, and_false (ltb 0 (Γ x)))
+  handed_off x A e = rw (e, and-false (ltb 0 (Γ x)))
 
   pub handed_number : (z : ℤ) (A : Set) → [] ≡ handed_one Γ (number z) A
   unfolding handed_one

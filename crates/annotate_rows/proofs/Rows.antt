@@ -1,20 +1,12 @@
 -- Laws of writing rows backwards.
-use Rattle.prelude.specs.Kit.{ℕ, ◌≤◌, ◌+◌, ◌<◌, ◌-◌, suc, arith, ◌≡◌, refl, ◌∙◌, sym, ap, List, [], ◌∷◌, ◌++◌, map, ℤ}
-use Rattle.prelude.specs.Kit.{length, set, length-set, length-append, lt-ltb, le-ltb}
+use Rattle.prelude.specs.Kit.{ℕ, ◌≤◌, ◌<◌, ◌-◌, suc, arith, ◌≡◌, refl, ◌∙◌, sym, ap, List, [], ◌∷◌, ◌++◌, map, ℤ}
+use Rattle.prelude.specs.Kit.{length, set, length-set, length-append, lt-ltb, le-ltb, map-append, length-map}
 use Rattle.semantics.specs.Code.{Row}
 use Rattle.annotate_rows.specs.Wrote.{before_place, backed, kinds_of, operands_of, Wrote, Room}
 
-pub map_append : {A B : Type 0} (f : A → B) (a b : List A) → map f (a ++ b) ≡ map f a ++ map f b
-map_append f [] b = refl
-map_append f (x ∷ a) b = ap (λ (l : List _). f x ∷ l) (map_append f a b)
-
+-- as `translate` cites it
 pub map_length : {A B : Type 0} (f : A → B) (a : List A) → length (map f a) ≡ length a
-map_length f [] = refl
-map_length f (x ∷ a) = ap suc (map_length f a)
-
-pub append_none : {A : Type 0} (a : List A) → a ++ [] ≡ a
-append_none [] = refl
-append_none (x ∷ a) = ap (λ (l : List _). x ∷ l) (append_none a)
+map_length f a = length-map a f
 
 backed_append : {A : Type 0} (l : List A) (w : ℕ) (rs qs : List A) → backed (backed l w rs) (w - length rs) qs ≡
     backed l w (qs ++ rs)
@@ -36,10 +28,10 @@ pub wrote_then : {k k₁ k₂ : List ℕ} {o o₁ o₂ : List ℤ} {w w₁ w₂ 
     Wrote k o k₁ o₁ w w₁ rs → Wrote k₁ o₁ k₂ o₂ w₁ w₂ qs → Wrote k o k₂ o₂ w w₂ (qs ++ rs)
 wrote_then {k} {k₁} {k₂} {o} {o₁} {o₂} {w} {w₁} {w₂} {rs} {qs} a b = record {
   kinds = backed_then k k₁ k₂ w w₁ (kinds_of rs) (kinds_of qs) (kinds_of (qs ++ rs)) a.kinds b.kinds
-      (a.at ∙ ap (λ (n : ℕ). w - n) (sym (map_length _ rs))) (map_append _ qs rs);
+      (a.at ∙ ap (λ (n : ℕ). w - n) (sym (length-map rs _))) (map-append _ qs rs);
   operands = backed_then o o₁ o₂ w w₁ (operands_of rs) (operands_of qs) (operands_of (qs ++ rs)) a.operands
       b.operands
-      (a.at ∙ ap (λ (n : ℕ). w - n) (sym (map_length _ rs))) (map_append _ qs rs);
+      (a.at ∙ ap (λ (n : ℕ). w - n) (sym (length-map rs _))) (map-append _ qs rs);
   at = omega (arith, a.at, b.at, length-append qs rs);
   long_kinds = b.long_kinds ∙ a.long_kinds;
   long_operands = b.long_operands ∙ a.long_operands;

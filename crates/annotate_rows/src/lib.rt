@@ -1,5 +1,6 @@
 // Writes annotated rows straight into the two lent arrays, towards their front.
-// A place w says that the rows from position w - 1 on are written; at place 0 a row did not fit.
+// A place w says that the rows from position w - 1 on are written; at place 0 a row did not fit. It is a number and no
+// Option: a row before place 0 or 1 leaves the arrays as they are, so no writer asks whether the one before it had room.
 #![tactic(auto)]
 
 ghost use Rattle.std.specs.Prelude.{◌≡◌, ◌&&◌, not, [], ◌∷◌, ◌-◌, ◌<◌, ◌≤◌, ltb};
@@ -72,17 +73,11 @@ pub fn release_one(
     ensures { Wrote ks.old os.old ks.new os.new w result
         (release_rows (with_if (used && (ltb 0 (depth_in depths.now x) && not live)) x [])) }
 {
-    let d = depth_at(depths, x);
-    if 0 < d {
-        if used {
-            if live {
-                return w;
-            }
-            return put_row(ks, os, w, kinds::RELEASE, x as u32);
-        }
-        return w;
+    if used && 0 < depth_at(depths, x) && !live {
+        put_row(ks, os, w, kinds::RELEASE, x as u32)
+    } else {
+        w
     }
-    w
 }
 
 // Releases, lowest first, of the names below n that are used, arrays and not live.
@@ -101,13 +96,8 @@ pub fn put_releases(
         (set_of live.now))) }
 {
     let mut at = w;
-    let mut i = n;
-    while 0 < i {
-        i = i - 1;
-        let u = used[i];
-        let l = live[i];
-        let v = release_one(ks, os, depths, u, l, i, at);
-        at = v;
+    for i in (0..n).rev() {
+        at = release_one(ks, os, depths, used[i], live[i], i, at);
     }
     at
 }
@@ -126,8 +116,7 @@ pub fn put_release(
         (release_rows (dying (depth_in depths.now) (only x) (set_of live.now))) }
 {
     let i = x as usize;
-    let l = live[i];
-    release_one(ks, os, depths, true, l, i, w)
+    release_one(ks, os, depths, true, live[i], i, w)
 }
 
 // Releases, lowest first, of two names.
@@ -144,15 +133,11 @@ pub fn release_pair(
     ensures { Wrote ks.old os.old ks.new os.new w result
         (release_rows (dying (depth_in depths.now) (only y ∪ only x) (set_of live.now))) }
 {
-    if y < x {
-        let u = put_release(ks, os, depths, x, live, w);
-        return put_release(ks, os, depths, y, live, u);
+    if x == y {
+        return put_release(ks, os, depths, x, live, w);
     }
-    if x < y {
-        let v = put_release(ks, os, depths, y, live, w);
-        return put_release(ks, os, depths, x, live, v);
-    }
-    put_release(ks, os, depths, x, live, w)
+    let v = put_release(ks, os, depths, x.max(y), live, w);
+    put_release(ks, os, depths, x.min(y), live, v)
 }
 
 // Releases, lowest first, of a name and of an atom's name.
@@ -182,11 +167,11 @@ pub fn put_retain(ks: &mut [u8], os: &mut [i64], depths: &[u8; 256], x: u8, w: u
     ensures { Wrote ks.old os.old ks.new os.new w result
         (retain_rows (with_if (ltb 0 (depth_in depths.now x)) x [])) }
 {
-    let d = depth_at(depths, x as usize);
-    if 0 < d {
-        return put_row(ks, os, w, kinds::RETAIN, x as u32);
+    if 0 < depth_at(depths, x as usize) {
+        put_row(ks, os, w, kinds::RETAIN, x as u32)
+    } else {
+        w
     }
-    w
 }
 
 // A retain of an atom that is handed over, if it is an array that is used later.
@@ -203,12 +188,7 @@ pub fn retain_atom(
         (retain_rows (handed_one (depth_in depths.now) (meant a) (set_of later.now))) }
 {
     match a {
-        Atom::Number(_) => w,
-        Atom::Name(x) => {
-            if later[x as usize] {
-                return put_retain(ks, os, depths, x, w);
-            }
-            w
-        }
+        Atom::Name(x) if later[x as usize] => put_retain(ks, os, depths, x, w),
+        _ => w,
     }
 }

@@ -11,33 +11,23 @@ ghost use Rattle.annotate_rows.specs.Wrote.{Wrote, Room};
 use crate::release_one;
 use kinds::Atom;
 
-// A row of the rows of last uses as a position.
-fn wide(v: u16) -> usize
-    ensures { result ≡ v }
-{
-    v as usize
-}
-
 // Whether the last use of a name lies past a row.
 pub fn is_since(cur: &[u16; 256], row: usize, i: usize) -> bool
     requires { i < 256 }
     ensures { result ≡ since row (marks_of cur.now) i }
 {
-    let v = wide(cur[i]);
-    row < v
+    row < cur[i] as usize
 }
 
 // Whether a name is an atom's.
 fn is_name(a: Atom, i: usize) -> bool
     ensures { result ≡ is (meant a) i }
 {
-    match a {
-        Atom::Number(_) => false,
-        Atom::Name(x) => x as usize == i,
-    }
+    matches!(a, Atom::Name(x) if x as usize == i)
 }
 
-// Releases, lowest first, of the names below n that are a's or used past a row, arrays and not live.
+// Releases, lowest first, of the names below n that are a's or used past a row, arrays and not live. The loop is that of
+// `put_releases` with another test, which given as a closure would want a contract longer than the loop.
 pub fn put_used(
     ks: &mut [u8],
     os: &mut [i64],
@@ -55,29 +45,19 @@ pub fn put_used(
         (below n (is (meant a) ∪ since row (marks_of cur.now))) (set_of live.now))) }
 {
     let mut at = w;
-    let mut i = n;
-    while 0 < i {
-        i = i - 1;
-        let s = is_since(cur, row, i);
-        let t = is_name(a, i);
-        let u = plain_rows::either(t, s);
-        let l = live[i];
-        let v = release_one(ks, os, depths, u, l, i, at);
-        at = v;
+    for i in (0..n).rev() {
+        let used = is_name(a, i) || is_since(cur, row, i);
+        at = release_one(ks, os, depths, used, live[i], i, at);
     }
     at
 }
 
 // The names live after a loop's tree: those below x used past a row, joined with those live after the loop less x.
-pub fn pass_names(cur: &[u16; 256], row: usize, x: u8, after: [bool; 256]) -> [bool; 256]
-    ensures { set_of result ≡ below x (since row (marks_of cur.now)) ∪ set_of after ∖ x }
+pub fn pass_names(cur: &[u16; 256], row: usize, x: u8, live: &mut [bool; 256])
+    ensures { set_of live.new ≡ below x (since row (marks_of cur.now)) ∪ set_of live.old ∖ x }
 {
-    let mut r = plain_rows::without(after, x);
-    let mut i: usize = 0;
-    while i < x as usize {
-        let s = is_since(cur, row, i);
-        r[i] = plain_rows::either(s, r[i]);
-        i = i + 1;
+    live[x as usize] = false;
+    for i in 0..x as usize {
+        live[i] |= is_since(cur, row, i);
     }
-    r
 }

@@ -1,44 +1,53 @@
 // The numbers of the service display, by name.
 #![tactic(auto)]
 
-// Refusals.
-pub const TRUNCATED: u8 = 1;
+ghost use Rattle.std.specs.Prelude.{◌≡◌};
+ghost use Rattle.answers.specs.Numbers.{number_of, stop_number};
 
-pub const SIZE_OUT_OF_RANGE: u8 = 2;
+// Why a file, a request or a store is refused.
+#[derive(Clone, Copy, PartialEq, Eq)]
+pub enum Refusal {
+    Truncated = 1,
+    SizeOutOfRange = 2,
+    Malformed = 3,
+    OperandOutOfRange = 4,
+    TooDeep = 5,
+    UnknownName = 6,
+    TypeMismatch = 7,
+    TooManyNames = 8,
+    CodeTooLong = 9,
+    BadRequest = 10,
+    UnsoundStore = 11,
+    BadSaveFile = 27,
+    BadCode = 29,
+}
 
-pub const MALFORMED: u8 = 3;
+impl Refusal {
+    // The number that the display shows.
+    pub fn number(self) -> u8
+        ensures { result ≡ number_of self }
+    {
+        self as u8
+    }
+}
 
-pub const OPERAND_OUT_OF_RANGE: u8 = 4;
+// Why a delivery stops.
+#[derive(Clone, Copy, PartialEq, Eq)]
+pub enum Stop {
+    OutOfSteps = 21,
+    CallTooDeep = 22,
+    IndexOutOfRange = 23,
+    Overflow = 24,
+    OutOfCells = 25,
+    BadCount = 26,
+    BadGuard = 28,
+}
 
-pub const TOO_DEEP: u8 = 5;
-
-pub const UNKNOWN_NAME: u8 = 6;
-
-pub const TYPE_MISMATCH: u8 = 7;
-
-pub const TOO_MANY_NAMES: u8 = 8;
-
-pub const CODE_TOO_LONG: u8 = 9;
-
-pub const BAD_REQUEST: u8 = 10;
-
-pub const UNSOUND_STORE: u8 = 11;
-
-pub const BAD_SAVE_FILE: u8 = 27;
-
-pub const BAD_CODE: u8 = 29;
-
-// Stops.
-pub const OUT_OF_STEPS: u8 = 21;
-
-pub const CALL_TOO_DEEP: u8 = 22;
-
-pub const INDEX_OUT_OF_RANGE: u8 = 23;
-
-pub const OVERFLOW: u8 = 24;
-
-pub const OUT_OF_CELLS: u8 = 25;
-
-pub const BAD_COUNT: u8 = 26;
-
-pub const BAD_GUARD: u8 = 28;
+impl Stop {
+    // Its number in the service display.
+    pub fn number(self) -> u8
+        ensures { result ≡ stop_number self }
+    {
+        self as u8
+    }
+}

@@ -4,27 +4,8 @@ use Rattle.prelude.specs.Kit.{not, ◌||◌, and-false, or-false, or-true, ◌�
 use Rattle.prelude.specs.Kit.{append_assoc, append-nil, eqb, length, get_or, set, length-set, replicate, take}
 use Rattle.prelude.specs.Kit.{get_or-set_other, get_or-set_same, ne_eqb, lt-ltb, eq-eqb, le-ltb}
 use Rattle.semantics.specs.Basics.{with_if}
-use Rattle.borrow_table.specs.Scan.{atoms_by, atoms_after, hands_by, hands, link_in, makes_link, hands_from}
+use Rattle.borrow_table.specs.Scan.{atoms_after, hands, link_in, makes_link, hands_from}
 use Rattle.borrow_table.specs.Scan.{links_from, handed_over, links_in, Scanned}
-
--- ---- kinds
-
-pub atoms_other : (kind m : ℕ) → (kind ≡ 8 → ⊥) → (kind ≡ 9 → ⊥) → (kind ≡ 11 → ⊥) → (kind ≡ 12 → ⊥) →
-    (kind ≡ 13 → ⊥) → (kind ≡ 16 → ⊥) → (kind ≡ 17 → ⊥) → (kind ≡ 19 → ⊥) → 2 ≡ atoms_by kind m
-atoms_other kind m a b c d e f g h =
-    rw (
-      ne_eqb kind 8 a,
-      ne_eqb kind 9 b,
-      ne_eqb kind 11 c,
-      ne_eqb kind 12 d,
-      ne_eqb kind 13 e,
-      ne_eqb kind 16 f,
-      ne_eqb kind 17 g,
-      ne_eqb kind 19 h,
-    )
-
-pub hands_other : (kind k : ℕ) → (kind ≡ 9 → ⊥) → (kind ≡ 16 → ⊥) → (kind ≡ 20 → ⊥) → false ≡ hands_by kind k
-hands_other kind k a b c = rw (ne_eqb kind 9 a, ne_eqb kind 16 b, ne_eqb kind 20 c)
 
 -- ---- lists
 

@@ -1,13 +1,13 @@
 -- Laws of the rounds over the table of borrowed parameters: what a link takes away, and what a round leaves.
 use Rattle.prelude.specs.Kit.{ℕ, ◌≤◌, ◌+◌, ◌<◌, suc, zero, ◌*◌, ◌%◌, ◌/◌, arith, dec_lt, ℕ_discrete, true, false, Bool}
-use Rattle.prelude.specs.Kit.{false≢true, and-false, ◌≡◌, refl, ◌∙◌, sym, ap, subst, List, [], ◌∷◌, eqb, ltb, length}
-use Rattle.prelude.specs.Kit.{get_or, set, take, length-take-le, get_or-take, ne_eqb, lt-ltb, eq-eqb}
+use Rattle.prelude.specs.Kit.{false≢true, ◌≡◌, refl, ◌∙◌, sym, ap, subst, List, [], ◌∷◌, ltb, length}
+use Rattle.prelude.specs.Kit.{get_or, set, take, length-take-le, get_or-take, lt-ltb, eq-eqb}
 use Rattle.laws.specs.Tests.{or_left, or_right}
 use Rattle.semantics.specs.Borrow.{Table, borrows}
 use Rattle.borrow_table.specs.Gathered.{passed}
 use Rattle.soundness.proofs.borrowing.Rounds.{Shaped, entry_small}
 use Rattle.borrow_table.specs.Rounds.{row_entries, entries, Within, takes_away, Quiet, Kept, Taken}
-use Rattle.borrow_table.specs.Rounds.{Spared, Reduced, Reworked, Settled}
+use Rattle.borrow_table.specs.Rounds.{Spared, Reduced, Reworked}
 use Rattle.borrow_table.proofs.Tables.{shaped_set, entry_set, entry_kept}
 
 -- ---- entries
@@ -105,47 +105,6 @@ module _ {l : ℕ} {T U : Table} (s : Shaped T) (t : Taken l T U) where
       stays X w q f i m (yes d) =
           absurd (false≢true (sym (q.at f i m) ∙ link_passes ls k X f i h
           (rw (← e, eq-eqb (l % 65536) (f + 256 * i) (sym d), owned X w _ refl))))
-
--- ---- one link
-
-module _ (l : ℕ) (T : Table) where
-  other_name : (f i : ℕ) → (l % 65536 ≡ f + 256 * i → ⊥) → takes_away l T f i ≡ false
-  other_name f i d = rw (ne_eqb (l % 65536) (f + 256 * i) d)
-
-  pub function_past : 32 ≤ l % 256 → Spared l T T
-  function_past g = record { quiet = record { at = λ f i a b e. other_name f i (λ z. omega arith) }; is = refl }
-
-  pub name_past : 8 ≤ l / 256 % 256 → Spared l T T
-  name_past g = record { quiet = record { at = λ f i a b e. other_name f i (λ z. omega arith) }; is = refl }
-
-  pub name_gone : borrows T (l % 256) (l / 256 % 256) ≡ false → Spared l T T
-  name_gone g = record {
-    quiet = record { at = λ f i a b e. other_name f i (λ z. apart f i a b e z) };
-    is = refl;
-  }
-    where
-      apart : (f i : ℕ) → f < 32 → i < 8 → borrows T f i ≡ true → l % 65536 ≡ f + 256 * i → ⊥
-      apart f i a b e z =
-          let x : f ≡ l % 256 = omega (arith, low_half l) in
-          let y : i ≡ l / 256 % 256 = omega (arith, low_half l) in
-          false≢true (sym g ∙ rw (x, y) at e)
-
-  pub place_borrowed : (j : ℕ) → j ≡ l / 16777216 → borrows T (l / 65536 % 256) j ≡ true → Spared l T T
-  place_borrowed j is g = record {
-    quiet = record { at = λ f i a b e. rw (← is, g) (and-false (eqb (l % 65536) (f + 256 * i))) };
-    is = refl;
-  }
-
-  pub place_owned : (j : ℕ) → j ≡ l / 16777216 → l % 256 < 32 → l / 256 % 256 < 8 →
-      borrows T (l % 256) (l / 256 % 256) ≡ true → borrows T (l / 65536 % 256) j ≡ false →
-      Taken l T (set T (l % 256) (set (get_or T (l % 256) []) (l / 256 % 256) false))
-  place_owned j is a b h g = record {
-    function = a;
-    name = b;
-    had = h;
-    owned = ap (λ (k : ℕ). borrows T (l / 65536 % 256) k) (sym is) ∙ g;
-    is = refl;
-  }
 
 -- ---- one round
 
@@ -277,9 +236,6 @@ module _ {links : List ℕ} {n : ℕ} {T : Table} where
           fewer = omega (arith, v.fewer, taken_fewer v.reduced.shaped t);
         }
 
-    pub chase_spares : {l : ℕ} → Spared l U W → Chased links n T W m
-    chase_spares t = subst (λ (Z : Table). Chased links n T Z m) (sym t.is) v
-
   -- the links that lead to one entry are followed
   pub chain_begins : {U : Table} {m₀ m : ℕ} → Chasing links n T U m₀ m → Chased links n U U m
   chain_begins v = record {
@@ -303,20 +259,3 @@ module _ {links : List ℕ} {n : ℕ} {T : Table} where
     some = λ z. s;
     none = λ z. absurd (let f : ⊥ = omega (arith, h, (v.none z).0) in f);
   }
-
--- ---- the rounds together
-
--- the table T has become U; whether another round is due
-pub record Rounds (links : List ℕ) (T U : Table) (due : Bool) : Type 0 where
-  pub reduced : Reduced links T U
-  pub kept : due ≡ false → Kept links U
-
-pub rounds_begin : {links : List ℕ} {T : Table} → Shaped T → Rounds links T T true
-rounds_begin s = record { reduced = reduced_none s; kept = λ z. absurd (false≢true (sym z)) }
-
-pub rounds_go : {links : List ℕ} {T U W : Table} {due changed : Bool} → Rounds links T U due →
-    Reworked links U W changed → Rounds links T W changed
-rounds_go v r = record { reduced = reduced_more v.reduced r.reduced; kept = r.kept }
-
-pub rounds_end : {links : List ℕ} {T U : Table} {due : Bool} → Rounds links T U due → due ≡ false → Settled links T U
-rounds_end v e = record { reduced = v.reduced; kept = v.kept e }

@@ -9,6 +9,8 @@ ghost use Rattle.semantics.specs.File.{script};
 ghost use Rattle.flatten_functions.specs.Script.{Translatable, Resulting_by};
 ghost use Rattle.borrow_table.specs.Table.{Borrowed_by};
 
+use scan::Links;
+
 // The table of borrowed parameters. Each function but main is laid in two arrays, whatever they held, and read once;
 // what they hand over and pass on is then worked out.
 pub fn borrow_table(
@@ -26,34 +28,29 @@ pub fn borrow_table(
     ensures borrowed_by { Borrowed_by (script kinds.now operands.now functions 0) result }
     ensures rows_len_2 { (length rows.new ≡ 2048) × (length notes.new ≡ 2048) }
 {
-    let row = [true; 8];
-    let mut first = [row; 32];
+    let mut first = [[true; 8]; 32];
     first[0] = [false; 8];
     if functions < 2 {
         return first;
     }
-    let mut links = [0u32; 1024];
-    let mut n: usize = 0;
-    let mut f: usize = 1;
-    while f < functions {
-        let at = starts[f];
+    let mut links = Links {
+        list: [0; 1024],
+        count: 0,
+    };
+    for f in 1..functions {
         let mut last = [0u16; 256];
         let mut depths = [0u8; 256];
         let q = flatten_functions::lay_function(
             kinds,
             operands,
             results,
-            at,
+            starts[f],
             rows,
             notes,
             &mut last,
             &mut depths,
         );
-        let found = scan::gather(rows, q, f, &mut links, n);
-        let names = found.names;
-        first[f] = names;
-        n = found.count;
-        f = f + 1;
+        first[f] = scan::gather(rows, q, f, &mut links);
     }
-    rounds::work_out(first, &links, n, notes)
+    rounds::work_out(first, &links, notes)
 }

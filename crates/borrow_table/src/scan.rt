@@ -3,86 +3,41 @@
 ghost use Rattle.std.specs.Prelude.{◌≡◌, ◌+◌, ◌<◌, ◌≤◌, ◌%◌, ◌/◌, length};
 ghost use Rattle.borrow_table.specs.Scan.{atoms_after, atoms_by, hands_by, link_in, links_in, Scanned};
 
-// The kinds of lines as a row has them, in its low 8 bits.
-const CALL: u32 = kinds::CALL as u32;
-
-const LITERAL: u32 = kinds::LITERAL as u32;
-
-const LENGTH: u32 = kinds::LENGTH as u32;
-
-const IF: u32 = kinds::IF as u32;
-
-const MAP: u32 = kinds::MAP as u32;
-
-const END: u32 = kinds::END as u32;
-
-const IOTA: u32 = kinds::IOTA as u32;
-
-const FILTER: u32 = kinds::FILTER as u32;
-
-const REDUCE: u32 = kinds::REDUCE as u32;
-
-// Which of the first eight names a function does not hand over outside of calls, and how many links there are with its
-// own.
-#[derive(Clone, Copy)]
-pub struct Found {
-    pub names: [bool; 8],
+// The links of the functions that were read: the first `count` of the list.
+#[derive(Drop)]
+pub struct Links {
+    pub list: [u32; 1024],
     pub count: usize,
 }
 
 // How many atoms a line of a kind has, m if it says so itself.
-fn atoms_by(kind: u32, m: u32) -> usize
-    requires { m < 256 }
+fn atoms_by(kind: u8, m: u8) -> usize
     ensures { result ≡ atoms_by kind m }
 {
-    if kind == CALL {
-        return m as usize;
+    match kind {
+        kinds::CALL | kinds::LITERAL => m as usize,
+        kinds::LENGTH | kinds::IF | kinds::MAP | kinds::END | kinds::IOTA | kinds::FILTER => 1,
+        _ => 2,
     }
-    if kind == LITERAL {
-        return m as usize;
-    }
-    if kind == LENGTH {
-        return 1;
-    }
-    if kind == IF {
-        return 1;
-    }
-    if kind == MAP {
-        return 1;
-    }
-    if kind == END {
-        return 1;
-    }
-    if kind == IOTA {
-        return 1;
-    }
-    if kind == FILTER {
-        return 1;
-    }
-    2
 }
 
 // How many atoms stand after the row of a line or an end.
 fn atoms_after(row: u32) -> usize
     ensures { result ≡ atoms_after row }
 {
-    atoms_by(row % 256, row / 16777216 % 256)
+    let [kind, _, _, m] = row.to_le_bytes();
+    atoms_by(kind, m)
 }
 
 // Whether an atom is handed over outside of calls, where so many more of its line follow it.
-fn hands_by(kind: u32, more: usize) -> bool
+fn hands_by(kind: u8, more: usize) -> bool
     ensures { result ≡ hands_by kind more }
 {
-    if kind == LITERAL {
-        return true;
+    match kind {
+        kinds::LITERAL | kinds::END => true,
+        kinds::REDUCE => more == 1,
+        _ => false,
     }
-    if kind == END {
-        return true;
-    }
-    if kind == REDUCE {
-        return more == 1;
-    }
-    false
 }
 
 // The link of function f for the name v of a call, where so many more atoms follow it.
@@ -90,50 +45,40 @@ fn link_in(f: usize, line: u32, more: usize, v: u32) -> u32
     requires { (f < 32) × (v < 8) × (more < line / 16777216 % 256) }
     ensures { result ≡ link_in f line more v }
 {
-    let place = line / 16777216 % 256 - (more as u32 + 1);
-    f as u32 + 256 * v + 65536 * (line / 65536 % 256) + 16777216 * place
+    let [_, _, callee, count] = line.to_le_bytes();
+    u32::from_le_bytes([f as u8, v as u8, callee, count - (more as u8 + 1)])
 }
 
-// The first q rows are read; the links of function f are put after the n that there are.
-pub fn gather(
-    rows: &plain_rows::Rows,
-    q: usize,
-    f: usize,
-    links: &mut [u32; 1024],
-    n: usize,
-) -> Found
+// The first q rows are read: the links of function f are put after those that there are. The answer is which of the
+// first eight names the function does not hand over outside of calls.
+pub fn gather(rows: &plain_rows::Rows, q: usize, f: usize, links: &mut Links) -> [bool; 8]
     requires q_bound { q ≤ 2048 }
     requires f_bound { f < 32 }
-    requires links_len { length links.old ≡ 1024 }
-    requires q_bound_2 { n + length (links_in rows.now f q) ≤ 1024 }
-    ensures { Scanned rows.now f q n links.old result.names links.new result.count }
+    requires links_len { length links.old.list ≡ 1024 }
+    requires q_bound_2 { links.old.count + length (links_in rows.now f q) ≤ 1024 }
+    ensures { Scanned rows.now f q links.old.count links.old.list result links.new.list links.new.count }
 {
     let mut names = [true; 8];
-    let mut count = n;
     let mut line: u32 = 0;
     let mut left: usize = 0;
-    let mut p: usize = 0;
-    while p < q {
+    for p in 0..q {
         let v = rows[p];
-        p = p + 1;
         if left == 0 {
             line = v;
             left = atoms_after(v);
             continue;
         }
-        left = left - 1;
+        left -= 1;
         if 8 <= v {
             continue;
         }
-        if line % 256 == CALL {
-            links[count] = link_in(f, line, left, v);
-            count = count + 1;
-            continue;
+        let kind = (line % 256) as u8;
+        if kind == kinds::CALL {
+            links.list[links.count] = link_in(f, line, left, v);
+            links.count += 1;
+        } else if hands_by(kind, left) {
+            names[v as usize] = false;
         }
-        if !hands_by(line % 256, left) {
-            continue;
-        }
-        names[v as usize] = false;
     }
-    Found { names, count }
+    names
 }

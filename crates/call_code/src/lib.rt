@@ -6,14 +6,15 @@ ghost use Rattle.std.specs.Prelude.{◌≡◌};
 ghost use Rattle.semantics_lent.specs.Calls.{judged_code, checking, engine_deliver_code};
 ghost use Rattle.call_code.specs.Delivering.{Delivers, fault_at};
 
-use lent_judge::Judged;
+use answers::Refusal;
+use lent_form::Fault;
 use machine_code::{STARTS, TABLE_BYTES};
 
 // The packed answer of code that does not pass: 29 and the line at fault.
-fn refused(line: usize) -> u64
-    ensures { result ≡ fault_at line }
+fn refused(fault: Fault) -> u64
+    ensures { result ≡ fault_at fault.line }
 {
-    words::pack(answers::BAD_CODE as u64, line as u64, 0, 0)
+    words::pack(Refusal::BadCode.number() as u64, fault.line as u64, 0, 0)
 }
 
 // Checks lent code for main of a depth: its lines in the answer, or the line at fault.
@@ -22,8 +23,8 @@ pub fn check(kinds: &[u8], operands: &[i64], depth: u64) -> u64
 {
     let mut depths = [0u8; STARTS];
     match lent_judge::judge(kinds, operands, depth, &mut depths) {
-        Judged::Passed(lines) => words::pack(0, 0, lines as u64, 0),
-        Judged::Refused(line) => refused(line),
+        Ok(lines) => words::pack(0, 0, lines as u64, 0),
+        Err(fault) => refused(fault),
     }
 }
 
@@ -45,7 +46,7 @@ pub fn deliver(
 {
     let mut table = [0u8; TABLE_BYTES];
     match lent_judge::judge(kinds, operands, depth, &mut table) {
-        Judged::Passed(lines) => {
+        Ok(lines) => {
             let ended = call_deliver::deliver_words(
                 &kinds[..lines],
                 &operands[..lines],
@@ -58,6 +59,6 @@ pub fn deliver(
             );
             call_store::answer(ended)
         }
-        Judged::Refused(line) => refused(line),
+        Err(fault) => refused(fault),
     }
 }

@@ -1,5 +1,5 @@
 -- One law for each way out of the store's part of a delivery.
-use Rattle.prelude.specs.Kit.{ℕ, ◌≤◌, ◌-◌, arith, true, false, ◌≡◌, refl, ◌∙◌, ap, subst, List, leb, ℤ, length}
+use Rattle.prelude.specs.Kit.{ℕ, ◌≤◌, arith, true, false, ◌≡◌, refl, ◌∙◌, ap, subst, List, leb, ℤ, length}
 use Rattle.prelude.specs.Kit.{leb-true}
 use Rattle.semantics.specs.Outcome.{Outcome, done, stop}
 use Rattle.semantics.specs.Store.{Store, cells_taken, free_cells}
@@ -14,19 +14,19 @@ use Rattle.laws.specs.Tests.{both_hold}
 use Rattle.store_words.proofs.Puts.{LengthsKept}
 use Rattle.machine_spec.specs.Machine as M
 use Rattle.machine_spec.specs.Delivery.{delivered_on, Performs}
-use Rattle.call_store.specs.declared.Ended.TheVariants.{Answered, Refused}
-use Rattle.call_store.specs.Left.{left}
+use Rattle.answers.specs.declared.Refusal.TheVariants.{BadRequest, UnsoundStore}
+use Rattle.call_store.specs.Left.{answered, refused, left}
 use Rattle.call_store.proofs.Laws.{words_left}
 use Rattle.call_deliver.specs.Delivered.{left_of, delivered_left}
 
 module _ (P : Program) (readings : List ℤ) (budget : ℕ) (slots : List ℤ) (heads : List ℕ) where
   pub refuses_10 : request_fits readings budget ≡ false →
-      left (Refused 10) slots heads ≡ delivered_left P readings budget slots heads
+      left (refused BadRequest) slots heads ≡ delivered_left P readings budget slots heads
   unfolding delivered_left
   refuses_10 e = rw e refl
 
   pub refuses_11 : request_fits readings budget ≡ true → (d : ℕ) → d ≡ P.depth →
-      sound_words d slots heads ≡ false → left (Refused 11) slots heads ≡ delivered_left P readings budget slots
+      sound_words d slots heads ≡ false → left (refused UnsoundStore) slots heads ≡ delivered_left P readings budget slots
       heads
   unfolding delivered_left
   refuses_11 e d same f = rw (e, subst (λ x. sound_words x slots heads ≡ false) same f) refl
@@ -60,7 +60,7 @@ module _ (P : Program) (c : M.Code) (performs : Performs P c) (readings : List �
   pub delivers : {slots' : List ℤ} {heads' : List ℕ} {number lowest steps n : ℕ} →
       LengthsKept slots heads slots' heads' → store_of slots' heads' ≡ shown.store → number ≡ shown.number →
       lowest ≡ shown.lowest → steps ≡ shown.steps → n ≡ cells_taken (store_of slots' heads') →
-      left (Answered number lowest steps n) slots' heads' ≡ delivered_left P readings budget slots heads
+      left (answered number lowest steps n) slots' heads' ≡ delivered_left P readings budget slots heads
   unfolding delivered_left
   delivers kept holds a l b counted =
       rw (request, fine_for)

@@ -6,9 +6,8 @@ use Rattle.semantics.specs.Machine.{Program, Delivered, delivered}
 use Rattle.semantics.specs.Calls.{request_fits}
 use Rattle.machine_spec.specs.Machine as M
 use Rattle.machine_spec.specs.Delivery.{Performs}
-use Rattle.call_store.specs.declared.Ended.{Ended}
-use Rattle.call_store.specs.declared.Ended.TheVariants.{Refused}
-use Rattle.call_store.specs.Left.{StoreLeft, left, left_by, SmallAnswer}
+use Rattle.answers.specs.declared.Refusal.TheVariants.{BadRequest, UnsoundStore}
+use Rattle.call_store.specs.Left.{Ended, refused, StoreLeft, left, left_by, SmallAnswer}
 
 -- the answer and the words of a delivery
 abbrev pub left_of : Delivered → StoreLeft
@@ -20,8 +19,8 @@ delivered_left P readings budget slots heads =
     cond (request_fits readings budget)
     (cond (sound_words P.depth slots heads)
     (left_of (delivered P readings budget (store_of slots heads)))
-    (left (Refused 11) slots heads))
-    (left (Refused 10) slots heads)
+    (left (refused UnsoundStore) slots heads))
+    (left (refused BadRequest) slots heads)
 
 -- for every program of which these are the code, the table and the totals' depth
 abbrev pub DeliversWords : List ℕ → List ℤ → List ℕ → List ℤ → List ℕ → List ℤ → ℕ → ℕ → Ended → List ℤ → List ℕ →

@@ -6,7 +6,8 @@ ghost use Rattle.semantics.specs.Calls.{request_fits};
 ghost use Rattle.machine_code.specs.Reading.{Cut};
 ghost use Rattle.call_deliver.specs.Delivered.{DeliversWords};
 
-use call_store::Ended;
+use answers::Refusal;
+use call_store::Answered;
 use machine_code::TABLE_BYTES;
 
 // Whether there are at most 16 readings and 1,000,000 steps.
@@ -14,10 +15,7 @@ use machine_code::TABLE_BYTES;
 fn request_fits(readings: &[i64], budget: u64) -> bool
     ensures { result ≡ request_fits readings.now budget }
 {
-    if 16 < readings.len() {
-        return false;
-    }
-    budget <= 1000000
+    readings.len() <= 16 && budget <= 1000000
 }
 
 // Works a delivery on the code of a script, cut to its lines, of which the table has the depths and the positions.
@@ -30,25 +28,25 @@ pub fn deliver_words(
     readings: &[i64],
     depth: u32,
     budget: u64,
-) -> Ended
+) -> Result<Answered, Refusal>
     requires { Cut kinds.now operands.now }
     ensures { DeliversWords kinds.now operands.now table.now
         slots.old heads.old readings.now depth budget
         result slots.new heads.new }
 {
     if !request_fits(readings, budget) {
-        return Ended::Refused(answers::BAD_REQUEST);
+        return Err(Refusal::BadRequest);
     }
     if !store_check::is_sound(slots, heads, depth) {
-        return Ended::Refused(answers::UNSOUND_STORE);
+        return Err(Refusal::UnsoundStore);
     }
     let end = machine_delivery::deliver_on(
         kinds, operands, table, slots, heads, readings, depth, budget,
     );
-    Ended::Answered(
-        end.number,
-        end.lowest,
-        end.steps,
-        store_words::cells_taken(slots, heads),
-    )
+    Ok(Answered {
+        number: end.number(),
+        lowest: end.lowest,
+        steps: end.steps,
+        cells: store_words::cells_taken(slots, heads),
+    })
 }

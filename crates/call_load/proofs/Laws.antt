@@ -14,16 +14,16 @@ use Rattle.laws.specs.Tests.{no_equation}
 use Rattle.script_read.specs.Told.{high_at}
 use Rattle.script_read.specs.Starts.{Started_by}
 use Rattle.script_read.proofs.Written.{ScriptWritten, script_written}
-use Rattle.script.specs.declared.Verdict.TheVariants.{Accepted, Refused}
-use Rattle.script.specs.Verdicts.{told_verdict, Judges}
+use Rattle.script.specs.Verdicts.{told_verdict, JudgedAs}
 use Rattle.script.proofs.Whole.{kinds_of, operands_of, FileTaken, taken}
 use Rattle.script_laws.specs.Nodes.{refused_node}
 use Rattle.soundness.proofs.annotation.Accepting.{judged_clean}
 use Rattle.flatten_functions.specs.Script.{Translatable}
 use Rattle.translate.specs.Left.{CodeLeft, left_of, Leaves}
-use Rattle.call_load.specs.declared.Loaded.{Loaded}
-use Rattle.call_load.specs.declared.Loaded.TheVariants as L
-use Rattle.call_load.specs.Loading.{Loads}
+use Rattle.std.specs.Prelude.{Result, Err, IsErrAnd}
+use Rattle.std.proofs.lemmas.Result.{err_from_is_err_and}
+use Rattle.call_load.specs.declared.Ready.{Ready}
+use Rattle.call_load.specs.Loading.{ready_with, Loads}
 
 -- ---- an accepted file
 
@@ -35,13 +35,13 @@ pub record AcceptedFile (file : List ℕ) (f n : ℕ) : Type 0 where
   pub functions : f ≡ bytes_at 2 file 0
   pub nodes : n ≡ bytes_at 2 file 2
 
-pub accepted_file : (file : List ℕ) (f n : ℕ) → Judges file (Accepted f n) → AcceptedFile file f n
+pub accepted_file : (file : List ℕ) (f n : ℕ) → JudgedAs file (done f n) → AcceptedFile file f n
 unfolding judged
 accepted_file file f n h = go (read_file file) refl h
   where
     by : (fs : Script) (q : ℕ) → read_file file ≡ done fs q → (l m : List ℕ) (o : Option ℕ) → name_faults fs ≡ l →
         type_faults fs ≡ m → too_many_names fs ≡ o →
-        Accepted f n ≡ told_verdict file (judged_script fs l m o) → AcceptedFile file f n
+        done f n ≡ told_verdict file (judged_script fs l m o) → AcceptedFile file f n
     by fs q r [] [] none a b c e = record {
       tree = fs;
       last = q;
@@ -54,10 +54,10 @@ accepted_file file f n h = go (read_file file) refl h
     by fs q r [] (x ∷ m) o a b c e = no_equation cc
     by fs q r (x ∷ l) m o a b c e = no_equation cc
 
-    go : (o : Outcome ℕ Script) → read_file file ≡ o → Accepted f n ≡ told_verdict file (judged_read (read_file file)) →
+    go : (o : Outcome ℕ Script) → read_file file ≡ o → done f n ≡ told_verdict file (judged_read (read_file file)) →
         AcceptedFile file f n
     go (done fs q) r e = by fs q r (name_faults fs) (type_faults fs) (too_many_names fs) refl refl refl (rw r at e)
-    go (stop m q) r e = let s : Accepted f n ≡ Refused m q = rw r at e in no_equation cc
+    go (stop m q) r e = let s : done f n ≡ stop m q = rw r at e in no_equation cc
 
 module _ {file : List ℕ} {f n : ℕ} (a : AcceptedFile file f n) where
   pub file_taken : FileTaken file f n
@@ -92,25 +92,29 @@ module _ {file : List ℕ} {f n : ℕ} (a : AcceptedFile file f n) where
 
 -- ---- the ways out
 
+-- an answer that is passed on
+pub passed_on : (r : Result Ready ℕ) (a : ℕ) → IsErrAnd r (λ b. b ≡ a) → r ≡ Err a
+passed_on r a e = let p = err_from_is_err_and r e in rw (p.1, p.2)
+
 -- the verdict is a refusal 1 to 8
-pub refused_so : (file : List ℕ) {n p : ℕ} → Judges file (Refused n p) → judged file ≡ C.refused n p
+pub refused_so : (file : List ℕ) {n p : ℕ} → JudgedAs file (stop n p) → judged file ≡ C.refused n p
 refused_so file {n} {p} j = go (judged file) j
   where
-    go : (v : C.Verdict) → Refused n p ≡ told_verdict file v → v ≡ C.refused n p
+    go : (v : C.Verdict) → stop n p ≡ told_verdict file v → v ≡ C.refused n p
     go (C.accepted fs) e = no_equation cc
     go (C.refused m q) e = cc
 
-pub node_fits : (file : List ℕ) {n p : ℕ} → Judges file (Refused n p) → p ≤ 1024
+pub node_fits : (file : List ℕ) {n p : ℕ} → JudgedAs file (stop n p) → p ≤ 1024
 node_fits file {n} {p} j = refused_node n p file (refused_so file j)
 
 -- an answer of the translator, as one of loading
-abbrev pub ready : ℕ → Outcome (Unit {0}) ℕ → Loaded
-ready d (done m u) = L.Ready m d
-ready d (stop n u) = L.Refused n
+abbrev pub ready : ℕ → Outcome (Unit {0}) ℕ → Result Ready ℕ
+ready d (done m u) = ready_with m d
+ready d (stop n u) = Err n
 
 module _ {file : List ℕ} {kinds : List ℕ} {operands : List ℤ} {kinds' : List ℕ} {operands' : List ℤ} where
   -- what the translator leaves
-  pub loads_laid : {f n : ℕ} (r : Outcome (Unit {0}) ℕ) (d : ℕ) → Judges file (Accepted f n) →
+  pub loads_laid : {f n : ℕ} (r : Outcome (Unit {0}) ℕ) (d : ℕ) → JudgedAs file (done f n) →
       d ≡ high_at (kinds_of file n) (operands_of file n) at_function 0 →
       Leaves (script (kinds_of file n) (operands_of file n) f 0) kinds operands
       (record { answer = r; kinds = kinds'; operands = operands' }) →
@@ -143,9 +147,9 @@ module _ {file : List ℕ} {kinds : List ℕ} {operands : List ℤ} {kinds' : Li
             operands_are = rw (a.judged_so, q) (ap (λ l. l.operands) s);
           }
 
-  pub loads_refusal : {n p a : ℕ} → Judges file (Refused n p) → a ≡ packed n p 0 0 →
+  pub loads_refusal : {n p a : ℕ} → JudgedAs file (stop n p) → a ≡ packed n p 0 0 →
       kinds' ≡ replicate (length kinds) 0 → operands' ≡ replicate (length operands) (pos 0) →
-      Loads file kinds operands (L.Refused a) kinds' operands'
+      Loads file kinds operands (Err a) kinds' operands'
   unfolding admitted
   loads_refusal {n} {p} j e k o = record {
     is = rw (refused_so file j, e) refl;

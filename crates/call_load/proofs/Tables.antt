@@ -12,8 +12,7 @@ use Rattle.semantics.specs.Calls as C
 use Rattle.semantics.specs.Calls.{packed, admitted, room, code_fits, code_kinds, code_operands}
 use Rattle.script_read.specs.Told.{high_at}
 use Rattle.script_read.proofs.Written.{script_written}
-use Rattle.script.specs.declared.Verdict.TheVariants.{Accepted, Refused}
-use Rattle.script.specs.Verdicts.{Judges}
+use Rattle.script.specs.Verdicts.{JudgedAs}
 use Rattle.script.proofs.Whole.{kinds_of, operands_of}
 use Rattle.script_laws.specs.Admitted.{no_script, admitted_judged}
 use Rattle.machine_code.specs.Reading.{table_bytes, depth_in, start_in}
@@ -28,7 +27,7 @@ use Rattle.machine_laws.specs.Starts.{starts_below, starts_ends, Begin, starts_s
 use Rattle.translate_script.specs.Depths.{DepthsFrom, Depths_by}
 use Rattle.translate_script.specs.Places.{PlacesFrom, Places_by}
 use Rattle.translate.specs.Left.{left_of, Leaves}
-use Rattle.call_load.specs.declared.Loaded.TheVariants as L
+use Rattle.std.specs.Prelude.{Err}
 use Rattle.call_load.specs.Loading.{LoadsWith}
 use Rattle.call_load.proofs.Laws.{AcceptedFile, accepted_file, file_taken, script_reads, ready, refused_so}
 use Rattle.call_load.proofs.Laws.{loads_laid, loads_refusal}
@@ -203,7 +202,7 @@ laid_within {file} {f} {n} a kinds kinds' operands operands' r m is left =
 module _ {file kinds : List ℕ} {operands : List ℤ} {table kinds' : List ℕ} {operands' : List ℤ} where
   -- what the translator leaves
   pub loads_with_laid : {f n : ℕ} (r : Outcome (Unit {0}) ℕ) (d : ℕ) (table' starts places : List ℕ) →
-      Judges file (Accepted f n) →
+      JudgedAs file (done f n) →
       d ≡ high_at (kinds_of file n) (operands_of file n) at_function 0 →
       Leaves (script (kinds_of file n) (operands_of file n) f 0) kinds operands
       (record { answer = r; kinds = kinds'; operands = operands' }) →
@@ -230,9 +229,9 @@ module _ {file kinds : List ℕ} {operands : List ℤ} {table kinds' : List ℕ}
           rw (g.0, ap (λ x. x.answer) s, ap (λ x. x.kinds) s, ap (λ x. x.operands) s)
           (coded_so a kinds operands g.1 placed h long)
 
-  pub loads_with_refusal : {n p m : ℕ} → Judges file (Refused n p) → m ≡ packed n p 0 0 →
+  pub loads_with_refusal : {n p m : ℕ} → JudgedAs file (stop n p) → m ≡ packed n p 0 0 →
       kinds' ≡ replicate (length kinds) 0 → operands' ≡ replicate (length operands) (pos 0) →
-      LoadsWith file kinds operands table (L.Refused m) kinds' operands' table
+      LoadsWith file kinds operands table (Err m) kinds' operands' table
   unfolding admitted
   loads_with_refusal {n} {p} j e k o = record {
     loads = loads_refusal j e k o;

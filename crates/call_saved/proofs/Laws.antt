@@ -1,6 +1,7 @@
 -- One law for each way out of the store's part of a restore.
 use Rattle.prelude.specs.Kit.{ℕ, ◌≤◌, arith, true, false, Bool, cond, ◌&&◌, ◌≡◌, refl, ◌∙◌, sym, ap, subst, some, none}
 use Rattle.prelude.specs.Kit.{Option, List, eqb, leb, ℤ, length, get_or, set, length-set, eqb-true, leb-true}
+use Rattle.std.specs.Prelude.{Option as Maybe, Some, None}
 use Rattle.semantics.specs.Outcome.{Outcome, done, stop, onward}
 use Rattle.semantics.specs.Value.{Value}
 use Rattle.semantics.specs.Store.{Store, zeroed, relinked, opened, with_totals, cells_taken}
@@ -14,11 +15,10 @@ use Rattle.store_words.proofs.Spelling.{shaped_means}
 use Rattle.saved_read.specs.Told.{is_there, readable}
 use Rattle.saved_load.specs.Entries.{Place, place, load_at, Ended}
 use Rattle.saved_load.specs.declared.Loaded.{Loaded}
-use Rattle.saved_load.specs.declared.Loaded.TheVariants.{Word, NoneFree}
-use Rattle.saved_load.proofs.Laws.{Stopped, ended_word, ended_none}
+use Rattle.saved_load.proofs.Laws.{Stopped, ended_some, ended_none}
 use Rattle.saved_load.proofs.Agreement.{Same, load_same}
-use Rattle.call_store.specs.declared.Ended.TheVariants.{Answered, Refused}
-use Rattle.call_store.specs.Left.{left, left_by}
+use Rattle.answers.specs.declared.Refusal.TheVariants.{UnsoundStore, BadSaveFile}
+use Rattle.call_store.specs.Left.{answered, refused, left, left_by}
 use Rattle.call_store.proofs.Laws.{words_left}
 use Rattle.call_saved.specs.Left.{restored_by, restored_left}
 
@@ -75,19 +75,19 @@ cannot_read d file = by (read_saved d file)
 -- ---- refusals
 
 module _ (d : ℕ) (saved : List ℕ) (slots : List ℤ) (heads : List ℕ) where
-  pub misshapen : shaped slots heads ≡ false → left (Refused 11) slots heads ≡ restored_left d saved slots heads
+  pub misshapen : shaped slots heads ≡ false → left (refused UnsoundStore) slots heads ≡ restored_left d saved slots heads
   unfolding restored_left
   misshapen e = rw e
 
   pub mislabelled : shaped slots heads ≡ true → readable d saved ≡ false →
-      left (Refused 27) slots heads ≡ restored_left d saved slots heads
+      left (refused BadSaveFile) slots heads ≡ restored_left d saved slots heads
   unfolding restored_left
   mislabelled e f = rw (e, cannot_read d saved f) refl
 
 -- ---- loading
 
 -- lengths that fit, a file that can be read, and its value loaded into the store σ just opened, where f cells are free
-pub record Loads (d : ℕ) (saved : List ℕ) (slots : List ℤ) (heads : List ℕ) (f : ℕ) (σ : Store) (r : Loaded)
+pub record Loads (d : ℕ) (saved : List ℕ) (slots : List ℤ) (heads : List ℕ) (f : ℕ) (σ : Store) (r : Maybe Loaded)
     (slots' : List ℤ) (heads' : List ℕ) : Type 0 where
   pub fit : shaped slots heads ≡ true
   pub can : readable d saved ≡ true
@@ -95,11 +95,23 @@ pub record Loads (d : ℕ) (saved : List ℕ) (slots : List ℤ) (heads : List �
   pub kept : LengthsKept slots heads slots' heads'
   pub ended : Ended (load_at saved (stated_count saved) d (place 0 f σ)) r (store_of slots' heads')
 
+pub loading : {d : ℕ} {saved : List ℕ} {slots : List ℤ} {heads : List ℕ} {f : ℕ} {σ : Store} {r : Maybe Loaded}
+    {slots' : List ℤ} {heads' : List ℕ} (k : ℕ) → shaped slots heads ≡ true → readable d saved ≡ true →
+    σ ≡ opened (cells_in slots heads) 0 → LengthsKept slots heads slots' heads' → k ≡ stated_count saved →
+    Ended (load_at saved k d (place 0 f σ)) r (store_of slots' heads') → Loads d saved slots heads f σ r slots' heads'
+loading {d} {saved} {f = f} {σ = σ} {r = r} {slots' = slots'} {heads' = heads'} k fit can opens kept e h = record {
+  fit = fit;
+  can = can;
+  opens = opens;
+  kept = kept;
+  ended = subst (λ (j : ℕ). Ended (load_at saved j d (place 0 f σ)) r (store_of slots' heads')) e h;
+}
+
 -- a word as the totals of a store
 abbrev finished : ℤ → Store → Outcome Store (Unit {0})
 finished w σ = done tt (with_totals σ w)
 
-module _ {d : ℕ} {saved : List ℕ} {slots : List ℤ} {heads : List ℕ} {f : ℕ} {σ : Store} {r : Loaded} {slots' : List ℤ}
+module _ {d : ℕ} {saved : List ℕ} {slots : List ℤ} {heads : List ℕ} {f : ℕ} {σ : Store} {r : Maybe Loaded} {slots' : List ℤ}
     {heads' : List ℕ} (l : Loads d saved slots heads f σ r slots' heads') where
   abbrev n : ℕ
   n = cells_in slots heads
@@ -146,25 +158,26 @@ module _ {d : ℕ} {saved : List ℕ} {slots : List ℤ} {heads : List ℕ} {f :
       by (stop m υ) g = ap (λ (j : ℕ). left_by j 0 0 (zeroed n)) g
 
   -- the word as the totals
-  pub restores : (w : ℤ) (q g : ℕ) → r ≡ Word w q g → (s : List ℤ) → s ≡ set slots' 0 w → (m : ℕ) →
-      m ≡ cells_taken (store_of s heads') → left (Answered 0 0 0 m) s heads' ≡ restored_left d saved slots heads
-  restores w q g e s put m counted =
+  pub restores : (v : Loaded) → r ≡ Some v → (s : List ℤ) → s ≡ set slots' 0 v.word → (m : ℕ) →
+      m ≡ cells_taken (store_of s heads') → left (answered 0 0 0 m) s heads' ≡ restored_left d saved slots heads
+  restores v e s put m counted =
       words_left
       (record {
-        slots_long = ap length put ∙ length-set slots' 0 w ∙ l.kept.slots_long;
+        slots_long = ap length put ∙ length-set slots' 0 v.word ∙ l.kept.slots_long;
         heads_long = l.kept.heads_long;
       })
       l.fit
-      (ap (λ (y : List ℤ). store_of y heads') put ∙ totals_store slots' heads' w
+      (ap (λ (y : List ℤ). store_of y heads') put ∙ totals_store slots' heads' v.word
       (omega (arith, l.kept.slots_long, (shaped_means slots heads l.fit).slots_long)))
       counted
       ∙ sym (restored_is ∙ ap (restored_by n)
-      (loads w q g (store_of slots' heads') (ended_word run r (store_of slots' heads') l.ended w q g e)))
+      (loads v.word v.next v.free (store_of slots' heads')
+      (ended_some run v (store_of slots' heads') (subst (λ (o : Maybe Loaded). Ended run o (store_of slots' heads')) e l.ended))))
 
   -- all words zero
-  pub clears : r ≡ NoneFree → {slots'' : List ℤ} {heads'' : List ℕ} → LengthsKept slots' heads' slots'' heads'' →
+  pub clears : r ≡ None → {slots'' : List ℤ} {heads'' : List ℕ} → LengthsKept slots' heads' slots'' heads'' →
       store_of slots'' heads'' ≡ zeroed (cells_in slots' heads') →
-      left (Answered 25 0 0 0) slots'' heads'' ≡ restored_left d saved slots heads
+      left (answered 25 0 0 0) slots'' heads'' ≡ restored_left d saved slots heads
   clears e kept zero_words =
       let zeros = zero_words ∙ ap zeroed (cells_kept l.kept) in
       words_left
@@ -173,4 +186,5 @@ module _ {d : ℕ} {saved : List ℕ} {slots : List ℤ} {heads : List ℕ} {f :
         heads_long = kept.heads_long ∙ l.kept.heads_long;
       })
       l.fit zeros (sym (ap cells_taken zeros ∙ none_taken n))
-      ∙ sym (restored_is ∙ runs_dry (ended_none run r (store_of slots' heads') l.ended e))
+      ∙ sym (restored_is ∙ runs_dry (ended_none run (store_of slots' heads')
+      (subst (λ (o : Maybe Loaded). Ended run o (store_of slots' heads')) e l.ended)))

@@ -7,9 +7,8 @@ use Rattle.semantics.specs.Store.{Store, zeroed, cells_taken}
 use Rattle.semantics.specs.Words.{cells_in, store_of, shaped}
 use Rattle.semantics.specs.Sound.{sound_words}
 use Rattle.semantics.specs.Saved.{read_saved, loaded}
-use Rattle.call_store.specs.Left.{StoreLeft, left, left_by}
-use Rattle.call_store.specs.declared.Ended.{Ended}
-use Rattle.call_store.specs.declared.Ended.TheVariants.{Answered, Refused}
+use Rattle.answers.specs.declared.Refusal.TheVariants.{UnsoundStore, BadSaveFile}
+use Rattle.call_store.specs.Left.{Ended, StoreLeft, answered, refused, left, left_by}
 use Rattle.saved_write.specs.Writing.{Saving, totals_saved}
 
 -- ---- restore
@@ -22,11 +21,11 @@ restored_by n (stop k _) = left_by k 0 0 (zeroed n)
 -- the value of a file, or 27
 abbrev pub restored_value : ℕ → List ℤ → List ℕ → Option Value → StoreLeft
 restored_value d slots heads (some v) = restored_by (cells_in slots heads) (loaded (cells_in slots heads) d v)
-restored_value d slots heads none = left (Refused 27) slots heads
+restored_value d slots heads none = left (refused BadSaveFile) slots heads
 
 unfoldable pub restored_left : ℕ → List ℕ → List ℤ → List ℕ → StoreLeft
 restored_left d saved slots heads =
-    cond (shaped slots heads) (restored_value d slots heads (read_saved d saved)) (left (Refused 11) slots heads)
+    cond (shaped slots heads) (restored_value d slots heads (read_saved d saved)) (left (refused UnsoundStore) slots heads)
 
 -- ---- save
 
@@ -39,10 +38,10 @@ save_left answer buffer = record { answer = answer; buffer = buffer }
 
 -- the cells taken and the file, or 27 and zeros
 abbrev pub save_left_by : ℕ → Saving → SaveLeft
-save_left_by cells s = save_left (cond s.fits (Answered 0 0 0 cells) (Refused 27)) s.buffer
+save_left_by cells s = save_left (cond s.fits (answered 0 0 0 cells) (refused BadSaveFile)) s.buffer
 
 unfoldable pub saved_left : ℕ → List ℤ → List ℕ → List ℕ → SaveLeft
 saved_left d slots heads buffer =
     cond (sound_words d slots heads)
     (save_left_by (cells_taken (store_of slots heads)) (totals_saved d (store_of slots heads) buffer))
-    (save_left (Refused 11) (replicate (length buffer) 0))
+    (save_left (refused UnsoundStore) (replicate (length buffer) 0))

@@ -2,68 +2,82 @@
 // part is told.
 #![tactic(auto)]
 
-ghost use Rattle.std.specs.Prelude.{◌≡◌};
-ghost use Rattle.call_store.specs.Left.{left, opened_left, checked_left, SmallAnswer};
+ghost use Rattle.std.specs.Prelude.{◌≡◌, Ok};
+ghost use Rattle.call_store.specs.Left.{answered, left, opened_left, checked_left, SmallAnswer};
 ghost use Rattle.call_store.specs.Told.{answer_to, Tells};
 
-// How the store's part of a call ends: the number of a stop or 0, the lowest level of a delivery, the steps and the
-// cells taken; or a refusal.
+use answers::Refusal;
+
+// What the store's part of a call answers: the number of a stop or 0, the lowest level of a delivery, the steps and the
+// cells taken. (The stop is its number here: that is what the packed answer for C holds, see `answer_to`.)
 #[derive(Clone, Copy)]
-pub enum Ended {
-    Answered(u8, u32, u64, usize),
-    Refused(u8),
+pub struct Answered {
+    pub number: u8,
+    pub lowest: u32,
+    pub steps: u64,
+    pub cells: usize,
+}
+
+// The answer of a part that is no delivery and does not stop, with so many cells taken.
+pub fn done(cells: usize) -> Answered
+    ensures { Ok result ≡ answered 0 0 0 cells }
+{
+    Answered {
+        number: 0,
+        lowest: 0,
+        steps: 0,
+        cells,
+    }
 }
 
 // Opens a store for totals of a depth; only the lengths are tested.
-pub fn open_words(slots: &mut [i64], heads: &mut [u32], depth: u32) -> Ended
+pub fn open_words(slots: &mut [i64], heads: &mut [u32], depth: u32) -> Result<Answered, Refusal>
     ensures heads_after { left result slots.new heads.new
         ≡ opened_left depth slots.old heads.old }
     ensures small_answer { SmallAnswer result }
 {
     if !store_words::lengths_fit(slots, heads) {
-        return Ended::Refused(answers::UNSOUND_STORE);
+        return Err(Refusal::UnsoundStore);
     }
     store_reset::open_store(slots, heads, depth);
-    Ended::Answered(0, 0, 0, store_words::cells_taken(slots, heads))
+    Ok(done(store_words::cells_taken(slots, heads)))
 }
 
 // Checks a store with totals of a depth.
-pub fn check_words(slots: &[i64], heads: &[u32], depth: u32) -> Ended
+pub fn check_words(slots: &[i64], heads: &[u32], depth: u32) -> Result<Answered, Refusal>
     ensures heads_value { left result slots.now heads.now
         ≡ checked_left depth slots.now heads.now }
     ensures small_answer { SmallAnswer result }
 {
     if !store_check::is_sound(slots, heads, depth) {
-        return Ended::Refused(answers::UNSOUND_STORE);
+        return Err(Refusal::UnsoundStore);
     }
-    Ended::Answered(0, 0, 0, store_words::cells_taken(slots, heads))
+    Ok(done(store_words::cells_taken(slots, heads)))
 }
 
 // The packed answer to how the store's part of a call ended.
-pub fn answer(ended: Ended) -> u64
+#[tactic(auto, unfolding(semantics::specs::Calls::packed))]
+pub fn answer(ended: Result<Answered, Refusal>) -> u64
     ensures { result ≡ answer_to ended }
 {
     match ended {
-        Ended::Answered(number, lowest, steps, cells) => words::pack(
-            number as u64,
-            lowest as u64,
-            steps,
-            cells as u64,
+        Ok(a) => words::pack(
+            u64::from(a.number),
+            u64::from(a.lowest),
+            a.steps,
+            a.cells as u64,
         ),
-        Ended::Refused(number) => number as u64,
+        Err(refusal) => u64::from(refusal.number()),
     }
 }
 
 // The same for a call that leaves a script's code: a refusal zeroes both code arrays.
-pub fn tell(ended: Ended, kinds: &mut [u8], operands: &mut [i64]) -> u64
+pub fn tell(ended: Result<Answered, Refusal>, kinds: &mut [u8], operands: &mut [i64]) -> u64
     ensures { Tells ended kinds.old operands.old result
         kinds.new operands.new }
 {
-    match ended {
-        Ended::Answered(_, _, _, _) => answer(ended),
-        Ended::Refused(_) => {
-            clearing::clear_code(kinds, operands);
-            answer(ended)
-        }
+    if ended.is_err() {
+        clearing::clear_code(kinds, operands);
     }
+    answer(ended)
 }

@@ -1,6 +1,7 @@
 // The calls, each of which answers one packed number; crate engine_c exports them for C. Those for a script take its
 // file and the two code arrays, and translate afresh; those for lent code take it in the two code arrays, judge it
-// afresh, and write no word of it.
+// afresh, and write no word of it. The calls for a script share a match on the loading and no function of their own: a
+// closure that is lent the store would have to say in its clauses what it leaves there.
 #![tactic(auto)]
 
 ghost use Rattle.semantics.specs.Calls.{engine_translate, engine_open, engine_check, engine_deliver};
@@ -8,7 +9,7 @@ ghost use Rattle.semantics.specs.SaveCalls.{engine_save, engine_restore};
 ghost use Rattle.semantics_lent.specs.Calls.{engine_check_code, engine_deliver_code};
 ghost use Rattle.engine.specs.Promises.{Translates, Replies, Saves};
 
-use call_load::Loaded;
+use call_load::Ready;
 use machine_code::TABLE_BYTES;
 
 // Translates a script: its code in the two arrays, and its lines in the answer.
@@ -18,8 +19,8 @@ pub fn engine_translate(file: &[u8], kinds: &mut [u8], operands: &mut [i64]) -> 
         result kinds.new operands.new }
 {
     match call_load::load(file, kinds, operands) {
-        Loaded::Ready(lines, _) => words::pack(0, 0, lines as u64, 0),
-        Loaded::Refused(answer) => answer,
+        Ok(Ready { lines, .. }) => words::pack(0, 0, lines as u64, 0),
+        Err(answer) => answer,
     }
 }
 
@@ -37,11 +38,11 @@ pub fn engine_open(
         result kinds.new operands.new slots.new heads.new }
 {
     match call_load::load(file, kinds, operands) {
-        Loaded::Ready(_, depth) => {
+        Ok(Ready { depth, .. }) => {
             let ended = call_store::open_words(slots, heads, depth);
             call_store::tell(ended, kinds, operands)
         }
-        Loaded::Refused(answer) => answer,
+        Err(answer) => answer,
     }
 }
 
@@ -59,11 +60,11 @@ pub fn engine_check(
         result kinds.new operands.new slots.now heads.now }
 {
     match call_load::load(file, kinds, operands) {
-        Loaded::Ready(_, depth) => {
+        Ok(Ready { depth, .. }) => {
             let ended = call_store::check_words(slots, heads, depth);
             call_store::tell(ended, kinds, operands)
         }
-        Loaded::Refused(answer) => answer,
+        Err(answer) => answer,
     }
 }
 
@@ -84,7 +85,7 @@ pub fn engine_deliver(
 {
     let mut table = [0u8; TABLE_BYTES];
     match call_load::load_with(file, kinds, operands, &mut table) {
-        Loaded::Ready(lines, depth) => {
+        Ok(Ready { lines, depth }) => {
             let ended = call_deliver::deliver_words(
                 &kinds[..lines],
                 &operands[..lines],
@@ -97,7 +98,7 @@ pub fn engine_deliver(
             );
             call_store::tell(ended, kinds, operands)
         }
-        Loaded::Refused(answer) => answer,
+        Err(answer) => answer,
     }
 }
 
@@ -116,12 +117,12 @@ pub fn engine_save(
         result kinds.new operands.new slots.now heads.now saved.new }
 {
     match call_load::load(file, kinds, operands) {
-        Loaded::Ready(_, depth) => {
+        Ok(Ready { depth, .. }) => {
             let ended = call_saved::save_words(slots, heads, saved, depth);
             call_store::tell(ended, kinds, operands)
         }
-        Loaded::Refused(answer) => {
-            clearing::clear_bytes(saved, 0);
+        Err(answer) => {
+            saved.fill(0);
             answer
         }
     }
@@ -142,11 +143,11 @@ pub fn engine_restore(
         result kinds.new operands.new slots.new heads.new }
 {
     match call_load::load(file, kinds, operands) {
-        Loaded::Ready(_, depth) => {
+        Ok(Ready { depth, .. }) => {
             let ended = call_saved::restore_words(slots, heads, saved, depth);
             call_store::tell(ended, kinds, operands)
         }
-        Loaded::Refused(answer) => answer,
+        Err(answer) => answer,
     }
 }
 

@@ -13,11 +13,10 @@ ghost use Rattle.flatten_rows.specs.Made.{state, Given, Ready, Compounded, Made,
 
 use flatten_rows::atoms::NO_PLACE;
 use flatten_rows::{Head, Out, Spot};
-use parts::Shape;
 use script_read::{Node, Place};
 
 // The tree at a node, with so many levels left.
-#[cycle(lay_compound_lay_let_lay_node_lay_part_lay_tree_lay_if_lay_pass)]
+#[cycle(descent)]
 pub fn lay_part(
     kinds: &[u8],
     operands: &[u8],
@@ -48,19 +47,15 @@ pub fn lay_part(
         return parts::atom_out(NO_PLACE, spot);
     }
     match script_read::node_at(kinds, operands, spot.node, Place::Part) {
-        Node::Fits(kind, low, high) => {
-            let shape = Shape { kind, low, high };
-            lay_node(
-                kinds, operands, results, places, last, rows, notes, depths, shape, spot, levels,
-            )
-        }
-        Node::WrongKind => parts::atom_out(NO_PLACE, spot),
-        Node::WrongOperand => parts::atom_out(NO_PLACE, spot),
+        Ok(shape) => lay_node(
+            kinds, operands, results, places, last, rows, notes, depths, shape, spot, levels,
+        ),
+        Err(_) => parts::atom_out(NO_PLACE, spot),
     }
 }
 
 // The tree at a node that fits: an atom, a let, an if, or what has a line of its own after its parts.
-#[cycle(lay_compound_lay_let_lay_node_lay_part_lay_tree_lay_if_lay_pass)]
+#[cycle(descent)]
 fn lay_node(
     kinds: &[u8],
     operands: &[u8],
@@ -70,7 +65,7 @@ fn lay_node(
     rows: &mut plain_rows::Rows,
     notes: &mut plain_rows::Notes,
     depths: &mut [u8; 256],
-    shape: Shape,
+    shape: Node,
     spot: Spot,
     levels: u64,
 ) -> Out
@@ -89,11 +84,13 @@ fn lay_node(
         (spot.node + size ((tree_at kinds.now operands.now levels) spot.node)) result }
     ensures places_unchanged { places.new ≡ places.old }
 {
-    let kind = shape.kind;
-    let low = shape.low;
-    match kind {
+    let inner = Spot {
+        node: spot.node + 1,
+        ..spot
+    };
+    match shape.kind {
         kinds::NUMBER => parts::atom_out((256 + spot.node) as u16, spot),
-        kinds::NAME => parts::atom_out(places[low as usize], spot),
+        kinds::NAME => parts::atom_out(places[shape.low as usize], spot),
         kinds::LET => lay_let(
             kinds,
             operands,
@@ -104,7 +101,7 @@ fn lay_node(
             notes,
             depths,
             shape.low,
-            flatten_rows::spot_at(spot.node + 1, spot.n, spot.p),
+            inner,
             levels - 1,
         ),
         kinds::IF => trees::lay_if(
@@ -116,7 +113,7 @@ fn lay_node(
             rows,
             notes,
             depths,
-            flatten_rows::spot_at(spot.node + 1, spot.n, spot.p),
+            inner,
             levels - 1,
         ),
         _ => lay_compound(
@@ -136,7 +133,7 @@ fn lay_node(
 }
 
 // A leaf or a loop, at whose node it stands: its parts, and then its line.
-#[cycle(lay_compound_lay_let_lay_node_lay_part_lay_tree_lay_if_lay_pass)]
+#[cycle(descent)]
 fn lay_compound(
     kinds: &[u8],
     operands: &[u8],
@@ -146,7 +143,7 @@ fn lay_compound(
     rows: &mut plain_rows::Rows,
     notes: &mut plain_rows::Notes,
     depths: &mut [u8; 256],
-    shape: Shape,
+    shape: Node,
     spot: Spot,
     levels: u64,
 ) -> Out
@@ -170,40 +167,31 @@ fn lay_compound(
 {
     let count = parts::parts_before(shape.kind, shape.low, shape.high);
     let mut atoms = [0u16; 16];
-    let mut i: usize = 0;
-    let mut node = spot.node + 1;
-    let mut n = spot.n;
-    let mut p = spot.p;
-    while i < count {
-        let place = flatten_rows::atoms::atom_place(kinds, operands, places, node, levels);
-        if place < NO_PLACE {
-            atoms[i] = place;
-            node = node + 1;
-            i = i + 1;
-        } else {
-            let part = Spot { node, n, p };
-            let r = lay_part(
-                kinds, operands, results, places, last, rows, notes, depths, part, levels,
-            );
-            atoms[i] = r.place;
-            node = r.next;
-            n = r.n;
-            p = r.p;
-            i = i + 1;
-        }
+    let mut at = Spot {
+        node: spot.node + 1,
+        ..spot
+    };
+    for i in 0..count {
+        let part = match flatten_rows::atoms::atom_place(kinds, operands, places, at.node, levels) {
+            Some(place) => parts::atom_out(place, at),
+            None => lay_part(
+                kinds, operands, results, places, last, rows, notes, depths, at, levels,
+            ),
+        };
+        atoms[i] = part.place;
+        at = part.after;
     }
-    let after = Spot { node, n, p };
     if script_read::is_loop(shape.kind) {
-        return trees::lay_pass(
-            kinds, operands, results, places, last, rows, notes, depths, shape, after, &atoms,
-            levels,
-        );
+        trees::lay_pass(
+            kinds, operands, results, places, last, rows, notes, depths, shape, at, &atoms, levels,
+        )
+    } else {
+        parts::lay_leaf(results, last, rows, notes, depths, shape, at, &atoms)
     }
-    parts::lay_leaf(results, last, rows, notes, depths, shape, after, &atoms)
 }
 
 // A let: its first part is laid once, and its name then means that part's atom.
-#[cycle(lay_compound_lay_let_lay_node_lay_part_lay_tree_lay_if_lay_pass)]
+#[cycle(descent)]
 fn lay_let(
     kinds: &[u8],
     operands: &[u8],
@@ -237,16 +225,24 @@ fn lay_let(
     let i = x as usize;
     let old = places[i];
     places[i] = first.place;
-    let second = flatten_rows::spot_at(first.next, first.n, first.p);
-    let r = lay_part(
-        kinds, operands, results, places, last, rows, notes, depths, second, levels,
+    let second = lay_part(
+        kinds,
+        operands,
+        results,
+        places,
+        last,
+        rows,
+        notes,
+        depths,
+        first.after,
+        levels,
     );
     places[i] = old;
-    r
+    second
 }
 
 // A tree of its own from a row on, closed by its end line.
-#[cycle(lay_compound_lay_let_lay_node_lay_part_lay_tree_lay_if_lay_pass)]
+#[cycle(descent)]
 pub fn lay_tree(
     kinds: &[u8],
     operands: &[u8],
@@ -282,11 +278,13 @@ pub fn lay_tree(
         second: 0,
         third: 0,
     };
-    flatten_rows::lay_head(rows, notes, last, r.p, head, r.place);
+    let p = r.after.p;
+    flatten_rows::lay_head(rows, notes, last, p, head, r.place);
     Out {
         place: r.place,
-        next: r.next,
-        n: r.n,
-        p: r.p + 2,
+        after: Spot {
+            p: p + 2,
+            ..r.after
+        },
     }
 }

@@ -1,4 +1,4 @@
-// A node's shape, how many parts it has, and what is laid without a descent: an atom and a leaf's line.
+// How many parts a node has, and what is laid without a descent: an atom and a leaf's line.
 ghost use Rattle.std.specs.Prelude.{◌≡◌, ◌+◌, ◌<◌, ◌≤◌, get_or, set};
 ghost use Rattle.semantics.specs.File.{part_count};
 ghost use Rattle.plain_rows.specs.Plain.{packed_row};
@@ -7,23 +7,17 @@ ghost use Rattle.flatten_rows.specs.Source.{parts_before, second_part};
 ghost use Rattle.flatten_rows.specs.Made.{out};
 
 use flatten_rows::{Head, Out, Spot};
-
-// A node that fits: its kind and the two parts of its operand.
-#[derive(Clone, Copy)]
-pub struct Shape {
-    pub kind: u8,
-    pub low: u8,
-    pub high: u8,
-}
+use script_read::Node;
 
 // The second number of a line: a call's function, a literal's element depth.
 fn second_part(kind: u8, low: u8, high: u8) -> u8
     ensures { result ≡ second_part kind low high }
 {
-    if kind == kinds::CALL {
-        return low;
+    match kind {
+        kinds::CALL => low,
+        kinds::LITERAL => high,
+        _ => 0,
     }
-    if kind == kinds::LITERAL { high } else { 0 }
 }
 
 // How many parts a node has before its tree, if it is a loop's, or all in all.
@@ -31,9 +25,10 @@ pub fn parts_before(kind: u8, low: u8, high: u8) -> usize
     ensures { result ≡ parts_before kind low high }
 {
     if script_read::is_loop(kind) {
-        return plain_rows::loop_size(kind);
+        plain_rows::loop_size(kind)
+    } else {
+        script_read::parts_of(kind, low, high) as usize
     }
-    script_read::parts_of(kind, low, high) as usize
 }
 
 // An atom that is one node and has no lines.
@@ -43,9 +38,10 @@ pub fn atom_out(place: u16, spot: Spot) -> Out
 {
     Out {
         place,
-        next: spot.node + 1,
-        n: spot.n,
-        p: spot.p,
+        after: Spot {
+            node: spot.node + 1,
+            ..spot
+        },
     }
 }
 
@@ -56,7 +52,7 @@ pub fn lay_leaf(
     rows: &mut plain_rows::Rows,
     notes: &mut plain_rows::Notes,
     depths: &mut [u8; 256],
-    shape: Shape,
+    shape: Node,
     spot: Spot,
     atoms: &[u16; 16],
 ) -> Out
@@ -67,7 +63,7 @@ pub fn lay_leaf(
     ensures value { (result ≡ out spot.n spot.node (spot.n + 1)
         (spot.p + 1 + part_count shape.kind shape.low shape.high))
         × (notes.new ≡ set (noted notes.old last.old (spot.p + 1)
-        (firsts atoms.now 0 (part_count shape.kind shape.low shape.high))) result.p spot.p) }
+        (firsts atoms.now 0 (part_count shape.kind shape.low shape.high))) result.after.p spot.p) }
     ensures line_laid { LineLaid rows.old notes.old last.old rows.new
         (noted notes.old last.old (spot.p + 1)
         (firsts atoms.now 0 (part_count shape.kind shape.low shape.high))) last.new
@@ -93,8 +89,10 @@ pub fn lay_leaf(
     let end = flatten_rows::lay_line(rows, notes, last, spot.p, head, third as usize, atoms);
     Out {
         place: n as u16,
-        next: spot.node,
-        n: n + 1,
-        p: end,
+        after: Spot {
+            node: spot.node,
+            n: n + 1,
+            p: end,
+        },
     }
 }

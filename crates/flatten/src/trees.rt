@@ -8,12 +8,12 @@ ghost use Rattle.flatten_rows.specs.Laid.{meanings, firsts, placed_all};
 ghost use Rattle.flatten_rows.specs.Source.{tree_at, if_from, three_after, laid_rows};
 ghost use Rattle.flatten_rows.specs.Made.{state, out, Given, Ready, PassReady, loop_line, Adds, Made};
 
-use super::parts::Shape;
 use flatten_rows::{Out, Spot};
+use script_read::Node;
 
 // A loop's line after its parts, whose places stand in a table: its row, and its tree, in which the written names of a
 // pass mean its new names.
-#[cycle(lay_compound_lay_let_lay_node_lay_part_lay_tree_lay_if_lay_pass)]
+#[cycle(descent)]
 pub fn lay_pass(
     kinds: &[u8],
     operands: &[u8],
@@ -23,7 +23,7 @@ pub fn lay_pass(
     rows: &mut plain_rows::Rows,
     notes: &mut plain_rows::Notes,
     depths: &mut [u8; 256],
-    shape: Shape,
+    shape: Node,
     spot: Spot,
     atoms: &[u16; 16],
     levels: u64,
@@ -64,7 +64,7 @@ pub fn lay_pass(
 }
 
 // An if: its guard, its head, and its two trees.
-#[cycle(lay_compound_lay_let_lay_node_lay_part_lay_tree_lay_if_lay_pass)]
+#[cycle(descent)]
 pub fn lay_if(
     kinds: &[u8],
     operands: &[u8],
@@ -94,16 +94,14 @@ pub fn lay_if(
     let guard = super::lay_part(
         kinds, operands, results, places, last, rows, notes, depths, spot, levels,
     );
-    flatten_rows::open_if(rows, notes, last, guard);
-    let first = flatten_rows::spot_at(guard.next, guard.n + 1, guard.p + 2);
+    let first = flatten_rows::open_if(rows, notes, last, guard);
     let own = super::lay_tree(
         kinds, operands, results, places, last, rows, notes, depths, first, levels,
     );
-    flatten_rows::put_middle(notes, guard.p + 2, own.p);
-    let second = flatten_rows::spot_at(own.next, own.n, own.p);
+    flatten_rows::put_middle(notes, first.p, own.after.p);
     let other = super::lay_tree(
-        kinds, operands, results, places, last, rows, notes, depths, second, levels,
+        kinds, operands, results, places, last, rows, notes, depths, own.after, levels,
     );
     let depth = flatten_rows::depth_of(depths, own.place);
-    flatten_rows::close_line(notes, depths, guard.n, guard.p, other, depth)
+    flatten_rows::close_line(notes, depths, guard.after.n, guard.after.p, other, depth)
 }

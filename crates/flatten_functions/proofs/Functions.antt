@@ -1,5 +1,5 @@
 -- Laws of the functions of an accepted script.
-use Rattle.prelude.specs.Kit.{ℕ, ◌≤◌, ◌+◌, ◌<◌, ◌-◌, suc, zero, arith, dec_lt, ℕ_discrete, true, false, Bool, cond, ◌≡◌}
+use Rattle.prelude.specs.Kit.{ℕ, ◌≤◌, ◌+◌, ◌<◌, suc, zero, arith, dec_lt, ℕ_discrete, true, false, Bool, cond, ◌≡◌}
 use Rattle.prelude.specs.Kit.{refl, ◌∙◌, sym, ap, subst, fun_ext, some, none, List, [], ◌∷◌, ltb, length, get_or, set}
 use Rattle.prelude.specs.Kit.{length-set, replicate, get_or-set_other, get_or-set_same, ltb-false}
 use Rattle.semantics.specs.Syntax.{Function, Script, function_at, no_function, function_size}

@@ -8,7 +8,7 @@ use Rattle.semantics.specs.File as S
 use Rattle.semantics.specs.File.{Place, at_function, at_parameter, allowed, node_at, low_limits, high_limits}
 use Rattle.semantics.specs.Normal.{parameter_names}
 use Rattle.semantics.specs.Annotate.{parameter_depths_from}
-use Rattle.script_read.specs.Told.{low_at, high_at, low_of, high_of}
+use Rattle.script_read.specs.Told.{low_at, high_at, low_of}
 use Rattle.script_read.proofs.Nodes.{NodeFits, node_fits}
 use Rattle.script_read.proofs.Tables.{none_set}
 use Rattle.plain_rows.specs.Plain.{meant, placed}
@@ -25,29 +25,14 @@ module _ (k w : List ℕ) (place : Place) (kind : ℕ) (alone : (d : ℕ) → al
   low_in d S.wrong_kind i = omega arith
   low_in d S.wrong_operand i = omega arith
 
-  high_in : (d : ℕ) (v : S.Node) → NodeFits place d v → high_of v ≤ get_or high_limits kind 0
-  high_in d (S.fits h) i = rw (alone h.kind i.stands) at i.high
-  high_in d S.wrong_kind i = omega arith
-  high_in d S.wrong_operand i = omega arith
-
   low_most : low_at k w place p ≤ get_or low_limits kind 0
   unfolding low_at
   low_most = low_in (get_or k p 255) (node_at k w place p) (node_fits k w place p)
 
-  high_most : high_at k w place p ≤ get_or high_limits kind 0
-  unfolding high_at
-  high_most = high_in (get_or k p 255) (node_at k w place p) (node_fits k w place p)
-
--- a function has at most 8 parameters, and depths are at most 4
+-- a function has at most 8 parameters
 module _ (k w : List ℕ) (p : ℕ) where
   pub count_most : low_at k w at_function p ≤ 8
   count_most = low_most k w at_function 0 (λ d e. eqb-true d 0 e) p
-
-  pub result_most : high_at k w at_function p ≤ 4
-  result_most = high_most k w at_function 0 (λ d e. eqb-true d 0 e) p
-
-  pub depth_most : high_at k w at_parameter p ≤ 4
-  depth_most = high_most k w at_parameter 1 (λ d e. eqb-true d 1 e) p
 
 module _ (k w : List ℕ) (at : ℕ) where
   abbrev pub Rest : ℕ → ℕ → List Parameter

@@ -1,8 +1,8 @@
 -- The tree of one function that is laid: all its parts together.
-use Rattle.prelude.specs.Kit.{ℕ, ◌≤◌, ◌+◌, ◌-◌, arith, ◌≡◌, refl, ◌∙◌, sym, ap, fun_ext, List, length, get_or, replicate}
+use Rattle.prelude.specs.Kit.{ℕ, ◌≤◌, ◌+◌, arith, ◌≡◌, refl, ◌∙◌, sym, ap, fun_ext, List, length, get_or, replicate}
 use Rattle.semantics.specs.Syntax.{Function, size}
 use Rattle.semantics.specs.File.{at_function}
-use Rattle.semantics.specs.Code.{Tree, end, rows}
+use Rattle.semantics.specs.Code.{Tree, end}
 use Rattle.semantics.specs.Normal.{fresh, atom, parameter_names, normal, normal_body}
 use Rattle.semantics.specs.Annotate.{NameDepths, parameter_depths_from, tree_depths}
 use Rattle.script_read.specs.Told.{low_at}
@@ -88,12 +88,12 @@ module _ (k w results : List ℕ) (at : ℕ) (fit : Fitting k w results at) wher
       no_last : marks_of ls ≡ (λ _. 0)
       no_last = ap marks_of blank ∙ no_marks
 
-      wide : extent (normal_body here) ≡ o.p
+      wide : extent (normal_body here) ≡ o.after.p
       wide =
           let x : extent (normal_body here) ≡ laid_rows (tree_at k w 64 (at + 1 + c)) + 2 = rw normal_is at M.wide in
           omega (arith, M.reach)
 
-      end_row : (2 ≤ o.p) × (o.p ≤ 2040)
+      end_row : (2 ≤ o.after.p) × (o.after.p ≤ 2040)
       end_row =
           let z : laid_rows (tree_at k w 64 (at + 1 + c)) ≤ 2038 = rw (← ce) at few_rows in
           (omega (arith, M.reach), omega (arith, M.reach))
@@ -113,7 +113,7 @@ module _ (k w results : List ℕ) (at : ℕ) (fit : Fitting k w results at) wher
           ∙ ap (λ (t : Tree). tree_depths (λ f. get_or results f 0) t (depth_in ds)) normal_is
           ∙ ap (tree_depths (λ f. get_or results f 0) (normal_body here)) depths_first
 
-      pub function_laid : FunctionLaid k w results at rs₁ ns₁ ls₁ ds₁ o.p
+      pub function_laid : FunctionLaid k w results at rs₁ ns₁ ls₁ ds₁ o.after.p
       function_laid = record {
         stands = stands;
         marked = marked;

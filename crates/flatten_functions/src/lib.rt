@@ -25,13 +25,10 @@ fn bind_parameters(
     requires unbound { Unbound places.old depths.old }
     ensures { Binds operands.now (parameters_at kinds.now operands.now at count) 0 places.new depths.new }
 {
-    let mut i = count as usize;
-    while 0 < i {
-        i = i - 1;
+    for i in (0..count as usize).rev() {
         let x = script_read::low_at(kinds, operands, at + i, Place::Parameter);
-        let d = script_read::high_at(kinds, operands, at + i, Place::Parameter);
         places[x as usize] = i as u16;
-        depths[i] = d;
+        depths[i] = script_read::high_at(kinds, operands, at + i, Place::Parameter);
     }
 }
 
@@ -74,7 +71,7 @@ pub fn lay_function(
         spot,
         64,
     );
-    tree.p
+    tree.after.p
 }
 
 // The depths of the functions' results.
@@ -83,11 +80,8 @@ pub fn results_of(kinds: &[u8], operands: &[u8], starts: &[usize; 32], functions
     ensures { Resulting_by (script kinds.now operands.now functions 0) result }
 {
     let mut results = [0u8; 32];
-    let mut i: usize = 0;
-    while i < functions {
-        let d = script_read::high_at(kinds, operands, starts[i], Place::Function);
-        results[i] = d;
-        i = i + 1;
+    for i in 0..functions {
+        results[i] = script_read::high_at(kinds, operands, starts[i], Place::Function);
     }
     results
 }

@@ -31,16 +31,16 @@ same_if g h i j = cc
 module _ (w : List ℕ) (res : ℕ → ℕ) where
   module _ {g b c : Expr} {μ : Meanings} {X X₁ X₂ X₃ X₄ X₅ Y : State} {n p d₀ l₁ l₂ l₃ v : ℕ} {rg rt re : Out}
       (A : Made w res g μ X X₁ n p d₀ l₁ rg)
-      (l : Lays X₁ X₂ rg.p (packed_row 12 rg.n 0 0) (rg.place ∷ []))
-      (B₀ : TreeMade w res b μ X₂ X₃ (rg.n + 1) (rg.p + 2) d₀ l₂ rt)
-      (m : Splits X₃ X₄ (rg.p + 2) rt.p)
-      (C₀ : TreeMade w res c μ X₄ X₅ rt.n rt.p d₀ l₃ re)
-      (s : Sets X₅ Y re.p rg.p rg.n v) (ve : v ≡ place_depth X₅.depths rt.place)
+      (l : Lays X₁ X₂ rg.after.p (packed_row 12 rg.after.n 0 0) (rg.place ∷ []))
+      (B₀ : TreeMade w res b μ X₂ X₃ (rg.after.n + 1) (rg.after.p + 2) d₀ l₂ rt)
+      (m : Splits X₃ X₄ (rg.after.p + 2) rt.after.p)
+      (C₀ : TreeMade w res c μ X₄ X₅ rt.after.n rt.after.p d₀ l₃ re)
+      (s : Sets X₅ Y re.after.p rg.after.p rg.after.n v) (ve : v ≡ place_depth X₅.depths rt.place)
       (names : n + fresh (S.if_else g b c) ≤ 256) (room : p + laid_rows (S.if_else g b c) ≤ 2040) where
-    B_is : TreeMade w res b μ X₂ X₃ (n + fresh g + 1) (rg.p + 2) d₀ l₂ rt
+    B_is : TreeMade w res b μ X₂ X₃ (n + fresh g + 1) (rg.after.p + 2) d₀ l₂ rt
     B_is = rw A.count at B₀
 
-    C_is : TreeMade w res c μ X₄ X₅ (n + fresh g + 1 + fresh b) rt.p d₀ l₃ re
+    C_is : TreeMade w res c μ X₄ X₅ (n + fresh g + 1 + fresh b) rt.after.p d₀ l₃ re
     C_is = rw B_is.count at C₀
 
     own : Tree
@@ -53,80 +53,80 @@ module _ (w : List ℕ) (res : ℕ → ℕ) where
     unfolding fresh
     few = omega arith
 
-    end_is : re.p ≡ p + laid_rows g + laid_rows b + laid_rows c + 6
+    end_is : re.after.p ≡ p + laid_rows g + laid_rows b + laid_rows c + 6
     end_is = omega (arith, A.reach, B_is.reach, C_is.reach)
 
     short : p + laid_rows g + laid_rows b + laid_rows c + 6 ≤ 2040
     unfolding laid_rows
     short = omega arith
 
-    middle_is : rt.p ≡ rg.p + 2 + extent own
+    middle_is : rt.after.p ≡ rg.after.p + 2 + extent own
     unfolding own
     middle_is = omega (arith, B_is.reach, B_is.wide)
 
     -- what each stage keeps
-    keep₅ : Same X₅ Y re.p re.p
-    keep₅ = same_sets re.p s
+    keep₅ : Same X₅ Y re.after.p re.after.p
+    keep₅ = same_sets re.after.p s
 
-    keep₄ : Same X₄ Y rt.p (rt.p + 1)
+    keep₄ : Same X₄ Y rt.after.p (rt.after.p + 1)
     keep₄ = same_then C_is.same
-        (same_less rt.p (rt.p + 1) keep₅ (omega (arith, C_is.reach)) (omega (arith, C_is.reach)))
+        (same_less rt.after.p (rt.after.p + 1) keep₅ (omega (arith, C_is.reach)) (omega (arith, C_is.reach)))
 
-    keep₃ : Same X₃ Y rt.p (rg.p + 2)
-    keep₃ = same_then (same_splits rt.p m (omega (arith, B_is.reach)))
-        (same_less rt.p (rg.p + 2) keep₄ (omega arith) (omega (arith, B_is.reach)))
+    keep₃ : Same X₃ Y rt.after.p (rg.after.p + 2)
+    keep₃ = same_then (same_splits rt.after.p m (omega (arith, B_is.reach)))
+        (same_less rt.after.p (rg.after.p + 2) keep₄ (omega arith) (omega (arith, B_is.reach)))
 
-    keep₂ : Same X₂ Y (rg.p + 2) (rg.p + 2)
-    keep₂ = same_then (same_less (rg.p + 2) (rg.p + 2) B_is.same (omega arith) (omega arith))
-        (same_less (rg.p + 2) (rg.p + 2) keep₃ (omega (arith, B_is.reach)) (omega arith))
+    keep₂ : Same X₂ Y (rg.after.p + 2) (rg.after.p + 2)
+    keep₂ = same_then (same_less (rg.after.p + 2) (rg.after.p + 2) B_is.same (omega arith) (omega arith))
+        (same_less (rg.after.p + 2) (rg.after.p + 2) keep₃ (omega (arith, B_is.reach)) (omega arith))
 
-    keep₁ : Same X₁ Y rg.p (rg.p + 1)
-    keep₁ = same_then (same_lays l) (same_less rg.p (rg.p + 1) keep₂ (omega arith) (omega arith))
+    keep₁ : Same X₁ Y rg.after.p (rg.after.p + 1)
+    keep₁ = same_then (same_lays l) (same_less rg.after.p (rg.after.p + 1) keep₂ (omega arith) (omega arith))
 
     if_line : C.Line
     if_line = C.if_else (n + fresh g) (atom g μ n) own other
 
-    marks₄ : marks_of X₄.last ≡ marks own (rg.p + 2) (marked (atom g μ n) (rg.p + 1) (marks_of X₁.last))
+    marks₄ : marks_of X₄.last ≡ marks own (rg.after.p + 2) (marked (atom g μ n) (rg.after.p + 1) (marks_of X₁.last))
     unfolding own
-    marks₄ = ap marks_of m.last ∙ B_is.marks ∙ ap (marks own (rg.p + 2)) (head_marks A l)
+    marks₄ = ap marks_of m.last ∙ B_is.marks ∙ ap (marks own (rg.after.p + 2)) (head_marks A l)
 
-    module _ (F : Plain) (u : F.operands ≡ w) (a : LinesAgree Y F rg.p re.p) where
-      in₂ : RowsAgree X₂ F rg.p (rg.p + 2)
-      in₂ = agrees_back (rg.p + 2) (rg.p + 2) a keep₂ (omega (arith, end_is, A.reach))
+    module _ (F : Plain) (u : F.operands ≡ w) (a : LinesAgree Y F rg.after.p re.after.p) where
+      in₂ : RowsAgree X₂ F rg.after.p (rg.after.p + 2)
+      in₂ = agrees_back (rg.after.p + 2) (rg.after.p + 2) a keep₂ (omega (arith, end_is, A.reach))
           (omega (arith, end_is, A.reach))
 
-      in₃ : RowsAgree X₃ F (rg.p + 2) rt.p
+      in₃ : RowsAgree X₃ F (rg.after.p + 2) rt.after.p
       in₃ =
-          agrees_split (agrees_from (rg.p + 2) (agrees_back rt.p rt.p a
-          (same_less rt.p rt.p keep₄ (omega arith) (omega arith)) (omega (arith, C_is.reach))
+          agrees_split (agrees_from (rg.after.p + 2) (agrees_back rt.after.p rt.after.p a
+          (same_less rt.after.p rt.after.p keep₄ (omega arith) (omega arith)) (omega (arith, C_is.reach))
           (omega (arith, C_is.reach))) (omega arith)) m
 
-      in₅ : RowsAgree X₅ F rt.p re.p
-      in₅ = agrees_from rt.p (agrees_back re.p re.p a keep₅ (omega arith) (omega arith))
+      in₅ : RowsAgree X₅ F rt.after.p re.after.p
+      in₅ = agrees_from rt.after.p (agrees_back re.after.p re.after.p a keep₅ (omega arith) (omega arith))
           (omega (arith, B_is.reach))
 
-      at_own : note F.notes (rg.p + 2) ≡ rt.p
+      at_own : note F.notes (rg.after.p + 2) ≡ rt.after.p
       at_own =
-          a.notes (rg.p + 2) (omega arith) (omega (arith, B_is.reach, C_is.reach))
-          ∙ keep₄.notes (rg.p + 2) (omega (arith, B_is.reach))
+          a.notes (rg.after.p + 2) (omega arith) (omega (arith, B_is.reach, C_is.reach))
+          ∙ keep₄.notes (rg.after.p + 2) (omega (arith, B_is.reach))
           ∙ split_first m (omega (arith, B_is.reach)) (omega (arith, B_is.sized.notes, C_is.reach, end_is, short))
 
-      at_other : note F.notes rt.p ≡ rt.p
+      at_other : note F.notes rt.after.p ≡ rt.after.p
       at_other =
-          a.notes rt.p (omega (arith, B_is.reach)) (omega (arith, C_is.reach)) ∙ keep₄.notes rt.p (omega
+          a.notes rt.after.p (omega (arith, B_is.reach)) (omega (arith, C_is.reach)) ∙ keep₄.notes rt.after.p (omega
           arith)
           ∙ split_second m (omega (arith, B_is.sized.notes, C_is.reach, end_is, short))
 
-      if_there : (d : ℕ) → d₀ + 1 ≤ d → StandsLine F d if_line rg.p (marks_of X₁.last)
+      if_there : (d : ℕ) → d₀ + 1 ≤ d → StandsLine F d if_line rg.after.p (marks_of X₁.last)
       unfolding if_line own other line_with
       if_there d h = (
         (
-          ap (line_with F rg.p own other)
-              (line_back F rg.p 12 rg.n 0 0 rg.place (omega arith) (omega (arith, A.count, few)) (omega
+          ap (line_with F rg.after.p own other)
+              (line_back F rg.after.p 12 rg.after.n 0 0 rg.place (omega arith) (omega (arith, A.count, few)) (omega
               arith) (omega arith) (head_row A l F u in₂ (omega (arith, end_is, short, A.reach)))
               (head_atom A l F u in₂ (omega (arith, end_is, short, A.reach))))
               ∙ same_if A.count (head_means A l F u in₂ (omega (arith, end_is, short, A.reach))) refl refl,
-          no_end F rg.p 12 rg.n 0 0 (omega arith) (λ e. omega arith)
+          no_end F rg.after.p 12 rg.after.n 0 0 (omega arith) (λ e. omega arith)
               (head_row A l F u in₂ (omega (arith, end_is, short, A.reach))),
         ),
         head_linked A l F u in₂ (omega (arith, end_is, short, A.reach)),
@@ -154,10 +154,10 @@ module _ (w : List ℕ) (res : ℕ → ℕ) where
           ← ve,
           ← A.count,
         )
-        (sym (ap depth_in s.depths ∙ table_set X₅.depths 0 rg.n v
+        (sym (ap depth_in s.depths ∙ table_set X₅.depths 0 rg.after.n v
         (omega (arith, C_is.sized.depths, A.count, few))))
 
-    if_made : LineMade w res if_line X₁ Y (d₀ + 1) rg.p re.p
+    if_made : LineMade w res if_line X₁ Y (d₀ + 1) rg.after.p re.after.p
     unfolding if_line own other extent marks
     if_made = record {
       some = omega (arith, end_is, A.reach);
@@ -166,19 +166,20 @@ module _ (w : List ℕ) (res : ℕ → ℕ) where
       keeps = keep₁;
       marks_are = sym (ap marks_of s.last ∙ C_is.marks
           ∙ ap (λ (i : ℕ). marks other i (marks_of X₄.last)) middle_is
-          ∙ ap (marks other (rg.p + 2 + extent own)) marks₄);
-      back = note_there X₅.notes Y.notes re.p rg.p s.notes
+          ∙ ap (marks other (rg.after.p + 2 + extent own)) marks₄);
+      back = note_there X₅.notes Y.notes re.after.p rg.after.p s.notes
           (omega (arith, C_is.sized.notes, end_is, short));
       stands_line = if_there;
       depths_are = if_depths;
     }
 
-    pub made_if : Made w res (S.if_else g b c) μ X Y n p (d₀ + 1) l₃ (out rg.n re.next re.n re.p)
+    pub made_if : Made w res (S.if_else g b c) μ X Y n p (d₀ + 1) l₃
+        (out rg.after.n re.after.node re.after.n re.after.p)
     unfolding fresh atom lines laid_rows normal if_line own other
     made_if = record {
       next = C_is.next;
       count = omega (arith, C_is.count);
       reach = omega (arith, end_is);
-      gives = name_placed w rg.n (omega (arith, A.count, few)) ∙ ap C.name A.count;
-      adds = adds_then (adds_to rg.p (d₀ + 1) A.adds refl (omega arith)) (adds_line if_made);
+      gives = name_placed w rg.after.n (omega (arith, A.count, few)) ∙ ap C.name A.count;
+      adds = adds_then (adds_to rg.after.p (d₀ + 1) A.adds refl (omega arith)) (adds_line if_made);
     }

@@ -1,13 +1,12 @@
 -- Laws of laying rows and noting uses, one for each way of the code, and of what stands where after it.
-use Rattle.prelude.specs.Kit.{ℕ, ◌≤◌, ◌+◌, ◌<◌, ◌-◌, suc, zero, pred, arith, true, false, Bool, cond, ◌≡◌, refl, ◌∙◌}
-use Rattle.prelude.specs.Kit.{ap, List, [], ◌∷◌, eqb, length, get_or, set, length-set, get_or-set_other, get_or-set_same}
-use Rattle.prelude.specs.Kit.{ne_eqb, lt-ltb, le-ltb}
+use Rattle.prelude.specs.Kit.{ℕ, ◌≤◌, ◌+◌, ◌<◌, ◌-◌, suc, zero, pred, arith, ◌≡◌, refl, ◌∙◌}
+use Rattle.prelude.specs.Kit.{ap, List, [], ◌∷◌, length, get_or, set, length-set, get_or-set_other, get_or-set_same}
+use Rattle.prelude.specs.Kit.{lt-ltb, le-ltb}
 use Rattle.semantics.specs.Kinds.{Loop, mapping, filtering, reducing, rewriting}
-use Rattle.script_read.proofs.Limits.{NoneOf}
 use Rattle.plain_rows.specs.Plain.{loop_of, loop_size}
 use Rattle.plain_rows.proofs.Rows.{no_reduce}
 use Rattle.flatten_rows.specs.Laid.{laid, used_once, noted_once, used, noted, UsesLaid, LineLaid, firsts}
-use Rattle.flatten_rows.specs.Laid.{place_depth, line_depth, pass_places, loop_place}
+use Rattle.flatten_rows.specs.Laid.{place_depth, pass_places}
 
 -- ---- the use of an atom
 
@@ -99,38 +98,9 @@ firsts_at l i (suc m) (suc j) h =
     firsts_at l (i + 1) m j (omega arith) ∙ ap (λ (n : ℕ). get_or l n 0) (let e : i + 1 + j ≡ i + suc j = omega arith
     in e)
 
--- ---- depths
-
-pub depth_name : (ds : List ℕ) (v : ℕ) → v < 256 → get_or ds v 0 ≡ place_depth ds v
-depth_name ds v h = rw (lt-ltb v 256 h)
-
-pub depth_number : (ds : List ℕ) (v : ℕ) → 256 ≤ v → 0 ≡ place_depth ds v
-depth_number ds v h = rw (le-ltb v 256 h)
-
-module _ (rs ds : List ℕ) (y v u : ℕ) where
-  abbrev By : ℕ → ℕ
-  By kind = line_depth rs ds kind y v u
-
-  -- a kind that is known
-  pub depth_is : {kind : ℕ} {d : ℕ} (k : ℕ) → kind ≡ k → d ≡ By k → d ≡ By kind
-  depth_is k e f = rw e f
-
-  pub depth_other : (kind : ℕ) → NoneOf (18 ∷ 17 ∷ 10 ∷ 9 ∷ 8 ∷ []) kind → 0 ≡ By kind
-  depth_other kind n =
-      rw (
-        ne_eqb kind 8 n.0.0.0.0.1,
-        ne_eqb kind 9 n.0.0.0.1,
-        ne_eqb kind 10 n.0.0.1,
-        ne_eqb kind 17 n.0.1,
-        ne_eqb kind 18 n.1,
-      )
-
 -- ---- loops
 
 module _ (kind : ℕ) where
-  pub reduce_size : kind ≡ 20 → loop_size (loop_of kind) ≡ 2
-  reduce_size e = rw e
-
   pub some_size : 1 ≤ loop_size (loop_of kind)
   some_size = by (loop_of kind)
     where
@@ -155,13 +125,3 @@ module _ (kind : ℕ) where
     pass_other b e f =
         no_reduce (λ k. set ds (n + 1) b ≡ laid ds (n + 1) (pass_places k ds v u)) kind e
         (ap (set ds (n + 1)) f) (ap (set ds (n + 1)) f) (ap (set ds (n + 1)) f)
-
-  -- the depth of the name that a loop binds
-  pub loop_map : (ds : List ℕ) (v t d : ℕ) → (kind ≡ 19 → ⊥) → (kind ≡ 20 → ⊥) → d ≡ place_depth ds t →
-      d + 1 ≡ loop_place (loop_of kind) ds v t
-  loop_map ds v t d m r e =
-      rw (ne_eqb kind 20 r, ne_eqb kind 19 m) (by (eqb kind 21))
-    where
-      by : (b : Bool) → d + 1 ≡ loop_place (cond b rewriting mapping) ds v t
-      by true = let f : d + 1 ≡ suc (place_depth ds t) = omega (arith, e) in f
-      by false = let f : d + 1 ≡ suc (place_depth ds t) = omega (arith, e) in f

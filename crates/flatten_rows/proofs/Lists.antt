@@ -120,7 +120,7 @@ module _ {w : List ℕ} {res : ℕ → ℕ} {R : ℕ → Expr} {m at : ℕ} {μ 
       }
 
       pub listing_goes : {Z : State} {r : Out} → Made w res (R a) μ Y Z x q d₀ (a + size (R a)) r → m ≤ 16 →
-          Listing w res R m at μ X Z n p d₀ (set vs i r.place) (i + 1) r.next r.n r.p
+          Listing w res R m at μ X Z n p d₀ (set vs i r.place) (i + 1) r.after.node r.after.n r.after.p
       listing_goes {Z} {r} B g =
           rw B.next (record {
             within = omega arith;
@@ -141,7 +141,7 @@ module _ {w : List ℕ} {res : ℕ → ℕ} {R : ℕ → Expr} {m at : ℕ} {μ 
 
           atoms_there : placed_all w (firsts vs 0 i) ++ (atom (R a) μ x ∷ others)
               ≡ placed_all w (firsts (set vs i r.place) 0 (i + 1))
-              ++ atoms (several R (m - (i + 1)) (a + size (R a))) μ r.n
+              ++ atoms (several R (m - (i + 1)) (a + size (R a))) μ r.after.n
           atoms_there =
               rw B.count
               (sym (ap (λ (j : ℕ). placed_all w (firsts (set vs j r.place) 0 (i + 1)) ++ others)

@@ -183,7 +183,7 @@ module _ (w : List ℕ) (res : ℕ → ℕ) (kind low high : ℕ) (vs : List ℕ
 
   -- its tree and its end
   module _ {X₄ : State} {d : ℕ} {rt : Out} (T : TreeMade w res b ν X₃ X₄ (n + 1 + m) (q + 1 + m) d last rt) where
-    end_is : rt.p ≡ q + 1 + m + laid_rows b + 2
+    end_is : rt.after.p ≡ q + 1 + m + laid_rows b + 2
     end_is = T.reach
 
     inner_depths :
@@ -205,13 +205,13 @@ module _ (w : List ℕ) (res : ℕ → ℕ) (kind low high : ℕ) (vs : List ℕ
         (each_loop (λ i. (i ≡ 19 → ⊥) → (i ≡ 20 → ⊥) → loop_of i ≡ mapping) kind looping (λ a b. refl)
         (λ a b. absurd (a refl)) (λ a b. absurd (b refl)) f g)
 
-    module _ {Y : State} {v : ℕ} (s : Sets X₄ Y rt.p q n v)
+    module _ {Y : State} {v : ℕ} (s : Sets X₄ Y rt.after.p q n v)
         (ve : v ≡ loop_place k X₄.depths (get_or vs 0 0) rt.place) where
       short : q + 1 + m + laid_rows b + 2 ≤ 2040
       short = ready.rows
 
-      held₄ : Same X₄ Y rt.p rt.p
-      held₄ = same_sets rt.p s
+      held₄ : Same X₄ Y rt.after.p rt.after.p
+      held₄ = same_sets rt.after.p s
 
       held₃ : Same X₃ Y (q + 1 + m) (q + 1 + m + 1)
       held₃ = same_then T.same
@@ -230,12 +230,13 @@ module _ (w : List ℕ) (res : ℕ → ℕ) (kind low high : ℕ) (vs : List ℕ
       many : length us ≡ m
       many = placed_many w vs m
 
-      module _ (F : Plain) (u : F.operands ≡ w) (g : LinesAgree Y F q rt.p) where
+      module _ (F : Plain) (u : F.operands ≡ w) (g : LinesAgree Y F q rt.after.p) where
         to₂ : RowsAgree X₂ F q (q + 1 + m)
         to₂ = agrees_back (q + 1 + m) (q + 1 + m) g held₂ (omega (arith, end_is)) (omega (arith, end_is))
 
-        to₄ : RowsAgree X₄ F (q + 1 + m) rt.p
-        to₄ = agrees_from (q + 1 + m) (agrees_back rt.p rt.p g held₄ (omega arith) (omega arith)) (omega arith)
+        to₄ : RowsAgree X₄ F (q + 1 + m) rt.after.p
+        to₄ =
+            agrees_from (q + 1 + m) (agrees_back rt.after.p rt.after.p g held₄ (omega arith) (omega arith)) (omega arith)
 
         at_tree : note F.notes (q + 1 + m) ≡ q + 1 + m
         at_tree =
@@ -284,7 +285,7 @@ module _ (w : List ℕ) (res : ℕ → ℕ) (kind low high : ℕ) (vs : List ℕ
           )
           (sym (ap depth_in s.depths ∙ table_set X₄.depths 0 n v (omega (arith, T.sized.depths, few))))
 
-      loop_made : LineMade w res the_line X Y (d + 1) q rt.p
+      loop_made : LineMade w res the_line X Y (d + 1) q rt.after.p
       unfolding the_line body extent marks
       loop_made = record {
         some = omega (arith, end_is);
@@ -293,10 +294,10 @@ module _ (w : List ℕ) (res : ℕ → ℕ) (kind low high : ℕ) (vs : List ℕ
         keeps = held₁;
         marks_are = ap (λ (i : ℕ). marks body (q + 1 + i) (marked_all us (q + 1) (marks_of X.last))) many
             ∙ sym (ap marks_of s.last ∙ T.marks ∙ ap (marks body (q + 1 + m)) marks₃);
-        back = note_there X₄.notes Y.notes rt.p q s.notes (omega (arith, T.sized.notes, end_is, short));
+        back = note_there X₄.notes Y.notes rt.after.p q s.notes (omega (arith, T.sized.notes, end_is, short));
         stands_line = loop_there;
         depths_are = loop_depths;
       }
 
-      pub loop_adds : Adds w res (line (loop_line k low high μ n us b)) X Y q rt.p (d + 1)
+      pub loop_adds : Adds w res (line (loop_line k low high μ n us b)) X Y q rt.after.p (d + 1)
       loop_adds = adds_as (adds_line loop_made) (λ t. ap (λ (L : C.Line). line L t) (sym line_is))

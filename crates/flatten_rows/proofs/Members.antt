@@ -1,5 +1,5 @@
 -- Laws of the descent, one for each of its functions: the room for each part, and what is made of all of them.
-use Rattle.prelude.specs.Kit.{ℕ, ◌≤◌, ◌+◌, ◌<◌, arith, ℕ_discrete, cond, ◌≡◌, refl, ◌∙◌, sym, ap, subst, fun_ext, List}
+use Rattle.prelude.specs.Kit.{pos, ℕ, ◌≤◌, ◌+◌, ◌<◌, arith, ℕ_discrete, cond, ◌≡◌, refl, ◌∙◌, sym, ap, subst, fun_ext, List}
 use Rattle.prelude.specs.Kit.{[], ◌∷◌, eqb, ℤ, length, get_or, set, length-set, get_or-set_other, get_or-set_same, ne_eqb}
 use Rattle.prelude.specs.Kit.{eq-eqb}
 use Rattle.semantics.specs.Basics.{updated}
@@ -11,6 +11,8 @@ use Rattle.semantics.specs.Normal.{Meanings, fresh, atom, lines, normal}
 use Rattle.semantics.specs.Annotate.{NameDepths, tree_depths}
 use Rattle.plain_rows.specs.Plain.{meant, placed, packed_row}
 use Rattle.plain_rows.specs.Parts.{depth_in}
+use Rattle.script_read.specs.Told.{Parts}
+use Rattle.flatten_rows.proofs.Nodes.{nowhere_placed}
 use Rattle.flatten_rows.specs.Laid.{LineLaid, nowhere, meanings, place_depth}
 use Rattle.flatten_rows.specs.Source.{let_from, if_from, two_after, three_after, laid_rows}
 use Rattle.flatten_rows.specs.Shallow.{Shallow}
@@ -59,6 +61,12 @@ pub number_laid : (w : List ℕ) (res : ℕ → ℕ) {e : Expr} {μ : Meanings} 
 unfolding size
 number_laid w res {e} {μ} {X} {n} {p} d at v z q g s = rw q (made_number w res z μ X n p d (at + 1) v s g)
 
+-- the place of no node, for the number 0
+pub nowhere_laid : {k w : List ℕ} (res : ℕ → ℕ) {e : Expr} {μ : Meanings} {X : State} {n p : ℕ} (d at : ℕ) →
+    Parts k w → e ≡ S.number (pos 0) → Sized X → Made w res e μ X X n p d (at + size e) (out nowhere (at + 1) n p)
+nowhere_laid res d at s q =
+    number_laid _ res d at nowhere (pos 0) q (nowhere_placed _ (omega (arith, s.few, s.whole)))
+
 pub name_laid : (w : List ℕ) (res : ℕ → ℕ) {e : Expr} (ps : List ℕ) {X : State} {n p : ℕ} (d at v x : ℕ) → e ≡
     S.name x → v ≡ get_or ps x nowhere →
     Sized X → Made w res e (meanings w ps) X X n p d (at + size e) (out v (at + 1) n p)
@@ -84,6 +92,11 @@ one_node (S.let_in x a b) = omega arith
 one_node (S.leaf l es) = omega arith
 one_node (S.if_else a b c) = omega arith
 one_node (S.loop k xs es b) = omega arith
+
+-- a tree for which there is room begins in the file
+pub ready_inside : {res : ℕ → ℕ} {μ : Meanings} {X : State} {e : Expr} {at n p : ℕ} →
+    Ready res μ X e (at + size e) n p → at < 1024
+ready_inside {e = e} r = omega (arith, r.nodes, one_node e)
 
 module _ (w : List ℕ) (res : ℕ → ℕ) (R : ℕ → Expr) where
   -- ---- a let
@@ -116,13 +129,14 @@ module _ (w : List ℕ) (res : ℕ → ℕ) (R : ℕ → Expr) where
       bound_is : bound ≡ updated (meanings w ps) x (meant (placed w ra.place))
       bound_is = rw e (meanings_set w ps x ra.place (omega arith))
 
-      second_shallow : Shallow res (lines Second bound ra.n r.after) (depth_in Y.depths)
+      second_shallow : Shallow res (lines Second bound ra.after.n r.after) (depth_in Y.depths)
       unfolding lines
       second_shallow =
           rw (bound_is, A.gives, A.count)
           (A.adds.shallow (lines Second inner (n + fresh (R at)) r.after) r.shallow)
 
-      pub let_second : Ready res bound Y (R ra.next) (ra.next + size (R ra.next)) ra.n ra.p
+      pub let_second : Ready res bound Y (R ra.after.node) (ra.after.node + size (R ra.after.node)) ra.after.n
+          ra.after.p
       unfolding fresh laid_rows
       let_second = rw A.next (record {
         sized = A.adds.sized;
@@ -134,7 +148,7 @@ module _ (w : List ℕ) (res : ℕ → ℕ) (R : ℕ → Expr) where
       })
 
       pub let_laid : {Z : State} {rb : Out} →
-          Made w res (R ra.next) bound Y Z ra.n ra.p d (ra.next + size (R ra.next)) rb →
+          Made w res (R ra.after.node) bound Y Z ra.after.n ra.after.p d (ra.after.node + size (R ra.after.node)) rb →
           Made w res (let_from R x at) (meanings w ps) X Z n p (d + 1) (two_after R at) rb
       let_laid B₀ = made_let w res bound x A bound_is (rw A.next at B₀)
 
@@ -173,7 +187,7 @@ module _ (w : List ℕ) (res : ℕ → ℕ) (R : ℕ → Expr) where
 
     module _ {d : ℕ} {k₁ n₁ d₁ l₁ : List ℕ} {rg : Out}
         (A : Made w res (R at) μ X (state k₁ n₁ d₁ l₁) n p d (at + size (R at)) rg) where
-      pub if_place : (rg.n < 256) × (rg.p + 6 ≤ 2040)
+      pub if_place : (rg.after.n < 256) × (rg.after.p + 6 ≤ 2040)
       unfolding fresh laid_rows
       if_place = (omega (arith, r.names, A.count), omega (arith, r.rows, A.reach))
 
@@ -184,12 +198,13 @@ module _ (w : List ℕ) (res : ℕ → ℕ) (R : ℕ → Expr) where
       trees_shallow = (A.adds.shallow (line the_if r.after) if_shallow).0
 
       module _ {k₂ n₂ l₂ : List ℕ}
-          (l : LineLaid k₁ n₁ l₁ k₂ n₂ l₂ rg.p (packed_row 12 rg.n 0 0) (rg.place ∷ [])) where
-        if_head : Lays (state k₁ n₁ d₁ l₁) (state k₂ n₂ d₁ l₂) rg.p (packed_row 12 rg.n 0 0) (rg.place ∷ [])
+          (l : LineLaid k₁ n₁ l₁ k₂ n₂ l₂ rg.after.p (packed_row 12 rg.after.n 0 0) (rg.place ∷ [])) where
+        if_head : Lays (state k₁ n₁ d₁ l₁) (state k₂ n₂ d₁ l₂) rg.after.p (packed_row 12 rg.after.n 0 0) (rg.place ∷ [])
         if_head = record { line = l; depths = refl }
 
-        pub if_own : Ready res μ (state k₂ n₂ d₁ l₂) (R rg.next) (rg.next + size (R rg.next)) (rg.n + 1)
-            (rg.p + 2)
+        pub if_own : Ready res μ (state k₂ n₂ d₁ l₂) (R rg.after.node) (rg.after.node + size (R rg.after.node))
+            (rg.after.n + 1)
+            (rg.after.p + 2)
         unfolding fresh laid_rows normal own_tree
         if_own = rw (A.next, A.count) (record {
           sized = sized_lays A.adds.sized if_head;
@@ -201,13 +216,14 @@ module _ (w : List ℕ) (res : ℕ → ℕ) (R : ℕ → Expr) where
         })
 
         module _ {k₃ n₃ d₃ l₃ : List ℕ} {rt : Out}
-            (B₀ : TreeMade w res (R rg.next) μ (state k₂ n₂ d₁ l₂) (state k₃ n₃ d₃ l₃) (rg.n + 1) (rg.p + 2) d
-            (rg.next + size (R rg.next)) rt) where
-          B_there : TreeMade w res Own μ (state k₂ n₂ d₁ l₂) (state k₃ n₃ d₃ l₃) (rg.n + 1) (rg.p + 2) d
+            (B₀ : TreeMade w res (R rg.after.node) μ (state k₂ n₂ d₁ l₂) (state k₃ n₃ d₃ l₃) (rg.after.n + 1)
+            (rg.after.p + 2) d
+            (rg.after.node + size (R rg.after.node)) rt) where
+          B_there : TreeMade w res Own μ (state k₂ n₂ d₁ l₂) (state k₃ n₃ d₃ l₃) (rg.after.n + 1) (rg.after.p + 2) d
               (two_after R at) rt
           B_there = rw A.next at B₀
 
-          pub if_middle : rt.p ≤ 2040
+          pub if_middle : rt.after.p ≤ 2040
           unfolding laid_rows
           if_middle = omega (arith, r.rows, A.reach, B_there.reach)
 
@@ -215,12 +231,13 @@ module _ (w : List ℕ) (res : ℕ → ℕ) (R : ℕ → Expr) where
           unfolding own_tree
           own_depths = (rw A.count at B_there).depths
 
-          module _ {n₄ : List ℕ} (m : n₄ ≡ set (set n₃ (rg.p + 2) rt.p) rt.p rt.p) where
-            if_split : Splits (state k₃ n₃ d₃ l₃) (state k₃ n₄ d₃ l₃) (rg.p + 2) rt.p
+          module _ {n₄ : List ℕ} (m : n₄ ≡ set (set n₃ (rg.after.p + 2) rt.after.p) rt.after.p rt.after.p) where
+            if_split : Splits (state k₃ n₃ d₃ l₃) (state k₃ n₄ d₃ l₃) (rg.after.p + 2) rt.after.p
             if_split = record { rows = refl; notes = m; last = refl; depths = refl }
 
-            pub if_other : Ready res μ (state k₃ n₄ d₃ l₃) (R rt.next) (rt.next + size (R rt.next)) rt.n
-                rt.p
+            pub if_other : Ready res μ (state k₃ n₄ d₃ l₃) (R rt.after.node) (rt.after.node + size (R rt.after.node))
+                rt.after.n
+                rt.after.p
             unfolding fresh laid_rows normal other_tree
             if_other = rw (B_there.next, B_there.count, A.count) (record {
               sized = sized_splits B_there.sized if_split;
@@ -232,20 +249,20 @@ module _ (w : List ℕ) (res : ℕ → ℕ) (R : ℕ → Expr) where
             })
 
             module _ {k₅ n₅ d₅ l₅ : List ℕ} {re : Out}
-                (C₀ : TreeMade w res (R rt.next) μ (state k₃ n₄ d₃ l₃) (state k₅ n₅ d₅ l₅) rt.n rt.p d
-                (rt.next + size (R rt.next)) re) where
-              C_there : TreeMade w res Other μ (state k₃ n₄ d₃ l₃) (state k₅ n₅ d₅ l₅) rt.n rt.p d
+                (C₀ : TreeMade w res (R rt.after.node) μ (state k₃ n₄ d₃ l₃) (state k₅ n₅ d₅ l₅) rt.after.n rt.after.p d
+                (rt.after.node + size (R rt.after.node)) re) where
+              C_there : TreeMade w res Other μ (state k₃ n₄ d₃ l₃) (state k₅ n₅ d₅ l₅) rt.after.n rt.after.p d
                   (three_after R at) re
               C_there = rw B_there.next at C₀
 
-              pub if_end : re.p ≤ 2040
+              pub if_end : re.after.p ≤ 2040
               unfolding laid_rows
               if_end = omega (arith, r.rows, A.reach, B_there.reach, C_there.reach)
 
               pub if_laid : {n₆ d₆ : List ℕ} (v : ℕ) → v ≡ place_depth d₅ rt.place →
-                  n₆ ≡ set n₅ re.p rg.p → d₆ ≡ set d₅ rg.n v →
+                  n₆ ≡ set n₅ re.after.p rg.after.p → d₆ ≡ set d₅ rg.after.n v →
                   Made w res (if_from R at) μ X (state k₅ n₆ d₆ l₅) n p (d + 1) (three_after R at)
-                  (out rg.n re.next re.n re.p)
+                  (out rg.after.n re.after.node re.after.n re.after.p)
               if_laid v ve e f =
                   made_if w res A if_head B_there if_split C_there
                   (record { rows = refl; notes = e; last = refl; depths = f }) ve r.names r.rows
@@ -253,6 +270,6 @@ module _ (w : List ℕ) (res : ℕ → ℕ) (R : ℕ → Expr) where
   -- ---- a tree of its own
   pub tree_laid : {e : Expr} {μ : Meanings} {X : State} {k n d l k₁ n₁ l₁ : List ℕ} {x p d₀ last : ℕ} {r : Out} →
       Made w res e μ X (state k n d l) x p d₀ last r →
-      LineLaid k n l k₁ n₁ l₁ r.p (packed_row 16 0 0 0) (r.place ∷ []) → r.p ≤ 2040 →
-      TreeMade w res e μ X (state k₁ n₁ d l₁) x p d₀ last (out r.place r.next r.n (r.p + 2))
+      LineLaid k n l k₁ n₁ l₁ r.after.p (packed_row 16 0 0 0) (r.place ∷ []) → r.after.p ≤ 2040 →
+      TreeMade w res e μ X (state k₁ n₁ d l₁) x p d₀ last (out r.place r.after.node r.after.n (r.after.p + 2))
   tree_laid A l s = tree_made w res A (record { line = l; depths = refl }) s

@@ -1,6 +1,6 @@
 -- Laws of the tree at a node: one for each kind of node that the code tells apart.
 use Rattle.prelude.specs.Kit.{ℕ, ◌≤◌, ◌+◌, ◌<◌, ◌-◌, suc, ◌*◌, arith, true, false, false≢true, ◌≡◌, refl, ◌∙◌, sym, ap}
-use Rattle.prelude.specs.Kit.{inl, inr, ◌⊎◌, ⊎_elim, List, [], ◌∷◌, ℤ, pos, length, get_or, le-ltb, le-leb, lt-leb}
+use Rattle.prelude.specs.Kit.{inl, inr, ⊎_elim, List, [], ◌∷◌, ℤ, pos, length, get_or, le-ltb, le-leb, lt-leb}
 use Rattle.semantics.specs.Number.{Operation, sum, difference, less, signed, bytes_at}
 use Rattle.semantics.specs.Kinds.{Leaf, operation, call, literal, index, length_of, iota, replicate, leaf_kind}
 use Rattle.semantics.specs.Kinds.{Loop, mapping, filtering, reducing, rewriting, loop_kind}
@@ -11,7 +11,8 @@ use Rattle.semantics.specs.File.{at_part, look, node_at, node_of, part_count, lo
 use Rattle.semantics.specs.File.{shape_of}
 use Rattle.script_read.specs.Told.{Parts, node_outcome, parted, loops, AtomSeen}
 use Rattle.script_read.specs.declared.Node.{Node}
-use Rattle.script_read.specs.declared.Node.TheVariants.{Fits, WrongKind, WrongOperand}
+use Rattle.script_read.specs.declared.Misfit.{Misfit}
+use Rattle.std.specs.Prelude.{Result, Ok, Err}
 use Rattle.script_read.specs.declared.Atomic.TheVariants.{Number, Name}
 use Rattle.script_read.proofs.Limits.{NoneOf}
 use Rattle.script_read.proofs.Nodes.{Seen, seen, inside, HeadFits, head_fits, unfit}
@@ -162,7 +163,8 @@ compound_as {k} {w} {p} {kind} {low} {high} s n = go (sort_of s.node fit.stands)
 pub fits_seen : {k w : List ℕ} {d p kind low high : ℕ} → NodeFits k w d p kind low high →
     Seen k w at_part p kind low high
 fits_seen {k} {w} {d} {p} {kind} {low} {high} f =
-    seen k w at_part p (Fits kind low high) f.stands kind low high refl
+    let n : Node = record { kind = kind; low = low; high = high } in
+    seen k w at_part p (Ok n) f.stands n refl
 
 -- ---- the tree of each kind
 
@@ -195,10 +197,9 @@ module _ (k w : List ℕ) (d p : ℕ) (some : d ≡ 0 → ⊥) where
     compound_is c = tree_is ∙ c.tree (tree_at k w (d - 1)) p
 
   -- where no node fits stands the number 0
-  pub wrong_tree : (n : Node) → node_outcome n p ≡ parted (look k w at_part p) → (n ≡ WrongKind) ⊎ (n ≡
-      WrongOperand) →
-      tree_at k w d p ≡ number (pos 0)
-  wrong_tree n e f = ⊎_elim (tree_there S.wrong_kind) (tree_there S.wrong_operand) (unfit k w at_part p n e f).is
+  pub wrong_tree : (n : Result Node Misfit) → node_outcome n p ≡ parted (look k w at_part p) → (m : Misfit) →
+      n ≡ Err m → tree_at k w d p ≡ number (pos 0)
+  wrong_tree n e m f = ⊎_elim (tree_there S.wrong_kind) (tree_there S.wrong_operand) (unfit k w at_part p n e m f).is
 
 pub none_tree : (k w : List ℕ) (d p : ℕ) → d ≡ 0 → tree_at k w d p ≡ number (pos 0)
 unfolding tree_at
@@ -237,19 +238,26 @@ nowhere_placed w h = rw (lt-leb (8 * 65279 + 8) (length w) (omega arith))
 pub any_default : (l : List ℕ) (x : ℕ) → length l ≡ 256 → x < 256 → get_or l x 0 ≡ get_or l x 65535
 any_default l x h g = get_d_any l x 0 65535 (omega arith)
 
+pub number_inside : (k w : List ℕ) (p : ℕ) → AtomSeen k w p Number → p < length k
+number_inside k w p e =
+    let x : Node = record { kind = 2; low = 0; high = 0 } in
+    inside k w at_part p (Ok x) e x refl
+
 module _ (k w ps : List ℕ) (d p : ℕ) (some : d ≡ 0 → ⊥) where
   -- a number's place is its node's
   pub number_atom : Parts k w → AtomSeen k w p Number → AtomPlaced w ps (tree_at k w d p) (256 + p)
   number_atom s e =
-      let n = seen k w at_part p (Fits 2 0 0) e 2 0 0 refl in
+      let x : Node = record { kind = 2; low = 0; high = 0 } in
+      let n = seen k w at_part p (Ok x) e x refl in
       rw (number_is k w d p some n refl)
-      (number_placed k w p n.node s (inside k w at_part p 2 0 0 (Fits 2 0 0) e refl) n.stands n.same_kind)
+      (number_placed k w p n.node s (number_inside k w p e) n.stands n.same_kind)
 
   -- a name's place stands in the table
   pub name_atom : (x : ℕ) → AtomSeen k w p (Name x) → x < 256 → length ps ≡ 256 →
       AtomPlaced w ps (tree_at k w d p) (get_or ps x 0)
   name_atom x e h l =
-      rw (name_is k w d p some (seen k w at_part p (Fits 3 x 0) e 3 x 0 refl) refl) (any_default ps x l h)
+      let n : Node = record { kind = 3; low = x; high = 0 } in
+      rw (name_is k w d p some (seen k w at_part p (Ok n) e n refl) refl) (any_default ps x l h)
 
 -- ---- what the reader accepts is the tree at its node
 

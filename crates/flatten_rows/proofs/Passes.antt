@@ -106,14 +106,11 @@ module _ (w : List ℕ) (res : ℕ → ℕ) (kind low high : ℕ) (vs ps : List 
             (state rows₁ notes₁ depths₁ last₁) (state rows₂ notes₂ depths₂ last₂) (n + 1 + m) (p + 1 + m) d end rt
         T = rw means at T₀
 
-        pub pass_end : rt.p < 2048
-        pass_end = omega (arith, T₀.reach, ready.rows)
-
         pub pass_deep : (kind ≡ 19 → ⊥) → (kind ≡ 20 → ⊥) → place_depth depths₂ rt.place ≤ 3
         pass_deep = loop_shallow w res kind low high vs looping ready pass_head pass_opens T
 
         pub pass_laid : {notes₃ depths₃ : List ℕ} (v : ℕ) →
-            v ≡ loop_place (loop_of kind) depths₂ (get_or vs 0 0) rt.place → notes₃ ≡ set notes₂ rt.p p →
+            v ≡ loop_place (loop_of kind) depths₂ (get_or vs 0 0) rt.place → notes₃ ≡ set notes₂ rt.after.p p →
             depths₃ ≡ set depths₂ n v →
             Adds w res (line (loop_line (loop_of kind) low high (meanings w ps) n (placed_all w (firsts vs 0 m)) b))
             (state rows notes depths last) (state rows₂ notes₃ depths₃ last₂) p (p + 1 + m + laid_rows b + 2) (d + 1)

@@ -84,48 +84,48 @@ module _ (w : List ℕ) (res : ℕ → ℕ) where
   pub made_let : {a b : Expr} {μ : Meanings} (ν : Meanings) {X X₁ X₂ : State} {n p d₀ l₁ l₂ : ℕ} {ra rb : Out}
       (x : ℕ) →
       Made w res a μ X X₁ n p d₀ l₁ ra → ν ≡ updated μ x (meant (placed w ra.place)) → Made w res b ν X₁ X₂
-      ra.n ra.p d₀ l₂ rb →
+      ra.after.n ra.after.p d₀ l₂ rb →
       Made w res (S.let_in x a b) μ X X₂ n p (d₀ + 1) l₂ rb
   unfolding fresh atom lines laid_rows
   made_let {a} {b} {μ} ν {X} {X₁} {X₂} {n} {p} {d₀} {l₁} {l₂} {ra} {rb} x A e B₀ =
       go (rw (e ∙ ap (updated μ x) A.gives, A.count) at B₀)
     where
-      go : Made w res b (updated μ x (atom a μ n)) X₁ X₂ (n + fresh a) ra.p d₀ l₂ rb → Made w res (S.let_in x a
+      go : Made w res b (updated μ x (atom a μ n)) X₁ X₂ (n + fresh a) ra.after.p d₀ l₂ rb → Made w res (S.let_in x a
           b) μ X X₂ n p (d₀ + 1) l₂ rb
       go B = record {
         next = B.next;
         count = omega (arith, A.count, B.count);
         reach = omega (arith, A.reach, B.reach);
         gives = B.gives;
-        adds = adds_to rb.p (d₀ + 1) (adds_then A.adds B.adds) refl (omega arith);
+        adds = adds_to rb.after.p (d₀ + 1) (adds_then A.adds B.adds) refl (omega arith);
       }
 
   -- ---- a tree of its own
   module _ {e : Expr} {μ : Meanings} {X Y Z : State} {n p d₀ last : ℕ} {r : Out}
-      (A : Made w res e μ X Y n p d₀ last r) (l : Lays Y Z r.p (packed_row 16 0 0 0) (r.place ∷ []))
-      (s : r.p ≤ 2040) where
-    end_there : (F : Plain) → F.operands ≡ w → RowsAgree Z F p (r.p + 2) → (d : ℕ) →
-        Stands F d (end (atom e μ n)) r.p (marks_of Y.last)
+      (A : Made w res e μ X Y n p d₀ last r) (l : Lays Y Z r.after.p (packed_row 16 0 0 0) (r.place ∷ []))
+      (s : r.after.p ≤ 2040) where
+    end_there : (F : Plain) → F.operands ≡ w → RowsAgree Z F p (r.after.p + 2) → (d : ℕ) →
+        Stands F d (end (atom e μ n)) r.after.p (marks_of Y.last)
     end_there F u a d = (
       (
         ap (λ (v : ℕ). meant (placed F.operands v))
-            (row_laid l A.adds.sized F here (omega (arith, A.reach)) (omega arith) 1 (r.p + 1) refl (omega
+            (row_laid l A.adds.sized F here (omega (arith, A.reach)) (omega arith) 1 (r.after.p + 1) refl (omega
             arith))
             ∙ ap (λ (o : List ℕ). meant (placed o r.place)) u ∙ A.gives,
         omega (
           arith,
-          row_laid l A.adds.sized F here (omega (arith, A.reach)) (omega arith) 0 r.p (omega arith) (omega
+          row_laid l A.adds.sized F here (omega (arith, A.reach)) (omega arith) 0 r.after.p (omega arith) (omega
               arith),
         ),
       ),
-      subst (λ (b : C.Atom). Linked F b (r.p + 1) (marks_of Y.last)) A.gives
+      subst (λ (b : C.Atom). Linked F b (r.after.p + 1) (marks_of Y.last)) A.gives
           (linked_laid l A.adds.sized F here (omega (arith, A.reach)) (omega arith) w).0,
     )
       where
-        here : RowsAgree Z F p (r.p + 1 + 1)
-        here = let f : r.p + 2 ≡ r.p + 1 + 1 = omega arith in rw f at a
+        here : RowsAgree Z F p (r.after.p + 1 + 1)
+        here = let f : r.after.p + 2 ≡ r.after.p + 1 + 1 = omega arith in rw f at a
 
-    pub tree_made : TreeMade w res e μ X Z n p d₀ last (out r.place r.next r.n (r.p + 2))
+    pub tree_made : TreeMade w res e μ X Z n p d₀ last (out r.place r.after.node r.after.n (r.after.p + 2))
     unfolding normal tree_depths marks marked_all
     tree_made = record {
       next = A.next;
@@ -136,11 +136,11 @@ module _ (w : List ℕ) (res : ℕ → ℕ) where
       same = same_then A.adds.same
           (same_less p (p + 1) (same_lays l) (omega (arith, A.reach)) (omega (arith, A.reach)));
       marks = marks_laid l A.adds.sized w
-          ∙ ap (λ (b : C.Atom). marked b (r.p + 1) (marks_of Y.last)) A.gives
+          ∙ ap (λ (b : C.Atom). marked b (r.after.p + 1) (marks_of Y.last)) A.gives
           ∙ sym (A.adds.marks (end (atom e μ n)));
       wide = normal_extent e μ n;
       stands = λ F u a d h.
-          A.adds.stands F u (agrees_back r.p (r.p + 1) a (same_lays l) (omega arith) (omega arith)) d h
+          A.adds.stands F u (agrees_back r.after.p (r.after.p + 1) a (same_lays l) (omega arith) (omega arith)) d h
           (end (atom e μ n)) (end_there F u a d);
       depths = A.adds.depths (end (atom e μ n)) ∙ ap depth_in (sym l.depths);
     }

@@ -23,7 +23,7 @@ abbrev pub spot : ℕ → ℕ → ℕ → Spot
 spot node n p = record { node = node; n = n; p = p }
 
 abbrev pub out : ℕ → ℕ → ℕ → ℕ → Out
-out v next n p = record { place = v; next = next; n = n; p = p }
+out v next n p = record { place = v; after = spot next n p }
 
 -- the arrays that are laid
 pub record State : Type 0 where
@@ -160,22 +160,22 @@ module _ (w : List ℕ) (results : ℕ → ℕ) where
 
   -- the lines of a tree from row p on
   pub record Made (e : Expr) (μ : Meanings) (X Y : State) (n p d₀ last : ℕ) (r : Out) : Type 0 where
-    pub next : r.next ≡ last
-    pub count : r.n ≡ n + fresh e
-    pub reach : r.p ≡ p + laid_rows e
+    pub next : r.after.node ≡ last
+    pub count : r.after.n ≡ n + fresh e
+    pub reach : r.after.p ≡ p + laid_rows e
     pub gives : meant (placed w r.place) ≡ atom e μ n
-    pub adds : Adds (lines e μ n) X Y p r.p d₀
+    pub adds : Adds (lines e μ n) X Y p r.after.p d₀
 
   -- a tree from row p on, closed by its end line
   pub record TreeMade (e : Expr) (μ : Meanings) (X Y : State) (n p d₀ last : ℕ) (r : Out) : Type 0 where
-    pub next : r.next ≡ last
-    pub count : r.n ≡ n + fresh e
-    pub reach : r.p ≡ p + laid_rows e + 2
+    pub next : r.after.node ≡ last
+    pub count : r.after.n ≡ n + fresh e
+    pub reach : r.after.p ≡ p + laid_rows e + 2
     pub sized : Sized Y
     pub gives : meant (placed w r.place) ≡ atom e μ n
     pub same : Same X Y p (p + 1)
     pub marks : marks_of Y.last ≡ marks (normal e μ n) p (marks_of X.last)
     pub wide : extent (normal e μ n) ≡ laid_rows e + 2
-    pub stands : (F : Plain) → F.operands ≡ w → RowsAgree Y F p r.p → (d : ℕ) → d₀ ≤ d →
+    pub stands : (F : Plain) → F.operands ≡ w → RowsAgree Y F p r.after.p → (d : ℕ) → d₀ ≤ d →
         Stands F d (normal e μ n) p (marks_of X.last)
     pub depths : tree_depths results (normal e μ n) (depth_in X.depths) ≡ depth_in Y.depths

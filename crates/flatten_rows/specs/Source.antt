@@ -4,8 +4,8 @@ use Rattle.semantics.specs.Kinds.{Leaf, call, literal, Loop}
 use Rattle.semantics.specs.Syntax.{Expr, number, name, let_in, leaf, if_else, loop, Exprs, none, more, size, sizes}
 use Rattle.semantics.specs.File as S
 use Rattle.semantics.specs.File.{at_part, look, node_at, part_count, Shape, leaf_of, shape_of}
-use Rattle.script_read.specs.Told.{node_outcome, parted}
-use Rattle.script_read.specs.declared.Node.TheVariants.{Fits}
+use Rattle.semantics.specs.Outcome.{done}
+use Rattle.script_read.specs.Told.{parted}
 use Rattle.plain_rows.specs.Plain.{is_unary, is_looping, unary_of, binary_of, loop_of, loop_size, of_loop}
 
 -- m trees, one after the other
@@ -90,4 +90,4 @@ unfoldable mutual
 -- at a node stands one of this kind and these parts of its operand, and some level is left for it
 pub record NodeFits (kinds operands : List ℕ) (levels node kind low high : ℕ) : Type 0 where
   pub deep : levels ≡ 0 → ⊥
-  pub stands : node_outcome (Fits kind low high) node ≡ parted (look kinds operands at_part node)
+  pub stands : done (record { kind = kind; low = low; high = high }) node ≡ parted (look kinds operands at_part node)

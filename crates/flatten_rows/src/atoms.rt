@@ -1,5 +1,5 @@
 // Atoms, which need no descent.
-ghost use Rattle.std.specs.Prelude.{◌<◌};
+ghost use Rattle.std.specs.Prelude.{IfSome};
 ghost use Rattle.flatten_rows.specs.Source.{tree_at};
 ghost use Rattle.flatten_rows.specs.Made.{Given, AtomPlaced};
 
@@ -15,17 +15,17 @@ pub fn atom_place(
     places: &[u16; 256],
     node: usize,
     levels: u64,
-) -> u16
+) -> Option<u16>
     requires { Given kinds.now operands.now places.now }
-    ensures { result < 65535 → AtomPlaced operands.now places.now
-        (tree_at kinds.now operands.now levels node) result }
+    ensures { IfSome result (λ place. AtomPlaced operands.now places.now
+        (tree_at kinds.now operands.now levels node) place) }
 {
     if levels == 0 {
-        return NO_PLACE;
+        return None;
     }
     match script_read::atom_at(kinds, operands, node) {
-        Atomic::Number => (256 + node) as u16,
-        Atomic::Name(x) => places[x as usize],
-        Atomic::Other => NO_PLACE,
+        Atomic::Number => Some((256 + node) as u16),
+        Atomic::Name(x) => Some(places[x as usize]),
+        Atomic::Other => None,
     }
 }

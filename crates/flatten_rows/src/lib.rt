@@ -18,20 +18,11 @@ pub struct Spot {
     pub p: usize,
 }
 
-// What a descent answers: the place of a tree's atom, the node after it, the next new name, the row after its lines.
+// What a descent answers: the place of a tree's atom, and where it stands after the tree's nodes and lines.
 #[derive(Clone, Copy)]
 pub struct Out {
     pub place: u16,
-    pub next: usize,
-    pub n: usize,
-    pub p: usize,
-}
-
-// A spot of three numbers.
-pub fn spot_at(node: usize, n: usize, p: usize) -> Spot
-    ensures { result ≡ spot node n p }
-{
-    Spot { node, n, p }
+    pub after: Spot,
 }
 
 // The first row of a line: its kind, the name that it binds and two numbers more.
@@ -47,11 +38,7 @@ pub struct Head {
 fn packed_row(head: Head) -> u32
     ensures { result ≡ packed_row head.kind head.name head.second head.third }
 {
-    let kind = head.kind as u32;
-    let name = head.name as u32;
-    let second = head.second as u32;
-    let third = head.third as u32;
-    kind + 256 * name + 65536 * second + 16777216 * third
+    u32::from_le_bytes([head.kind, head.name, head.second, head.third])
 }
 
 // The use of an atom at a row: its place, and where its name was used before.
@@ -105,10 +92,8 @@ fn lay_places(
     ensures { UsesLaid rows.old notes.old last.old rows.new
         notes.new last.new p (firsts places.now 0 m) }
 {
-    let mut i: usize = 0;
-    while i < m {
+    for i in 0..m {
         put_use(rows, notes, last, p + i, places[i]);
-        i = i + 1;
     }
 }
 
@@ -155,24 +140,31 @@ pub fn lay_line(
     q
 }
 
-// Opens an if after its guard: its head.
+// Opens an if after its guard: its head. The answer is where its first tree begins.
 pub fn open_if(
     rows: &mut plain_rows::Rows,
     notes: &mut plain_rows::Notes,
     last: &mut [u16; 256],
     guard: Out,
-)
-    requires { (guard.n < 256) × (guard.p < 2040) }
-    ensures { LineLaid rows.old notes.old last.old rows.new
-        notes.new last.new guard.p (packed_row 12 guard.n 0 0) (guard.place ∷ []) }
+) -> Spot
+    requires { (guard.after.n < 256) × (guard.after.p < 2040) }
+    ensures value { result ≡ spot guard.after.node (guard.after.n + 1) (guard.after.p + 2) }
+    ensures line_laid { LineLaid rows.old notes.old last.old rows.new
+        notes.new last.new guard.after.p (packed_row 12 guard.after.n 0 0) (guard.place ∷ []) }
 {
+    let Spot { node, n, p } = guard.after;
     let head = Head {
         kind: kinds::IF,
-        name: guard.n as u8,
+        name: n as u8,
         second: 0,
         third: 0,
     };
-    lay_head(rows, notes, last, guard.p, head, guard.place);
+    lay_head(rows, notes, last, p, head, guard.place);
+    Spot {
+        node,
+        n: n + 1,
+        p: p + 2,
+    }
 }
 
 // The third number of a loop's row, whose name is n: a reduce's second name of a pass.
@@ -195,14 +187,12 @@ fn note_pass(depths: &mut [u8; 256], kind: u8, n: usize, places: &[u16; 16])
         (get_or places.now 1 0)) }
 {
     if kind == kinds::REDUCE {
-        let start = depth_of(depths, places[0]);
         let element = element_depth(depths, places[1]);
-        depths[n + 1] = start;
+        depths[n + 1] = depth_of(depths, places[0]);
         depths[n + 2] = element;
-        return;
+    } else {
+        depths[n + 1] = element_depth(depths, places[0]);
     }
-    let element = element_depth(depths, places[0]);
-    depths[n + 1] = element;
 }
 
 // Opens a loop after its parts, whose places stand in a table: its row, the first row of its tree, and the depths of
@@ -230,12 +220,11 @@ pub fn open_loop(
         (get_or places.now 1 0)) }
 {
     let m = plain_rows::loop_size(kind);
-    let third = third_of(kind, at.n);
     let head = Head {
         kind,
         name: at.n as u8,
         second: (at.n + 1) as u8,
-        third,
+        third: third_of(kind, at.n),
     };
     lay_atoms(rows, notes, last, at.p, head, m, places);
     let p = at.p + 1 + m;
@@ -304,19 +293,16 @@ pub fn close_line(
     tree: Out,
     depth: u8,
 ) -> Out
-    requires { (n < 256) × ((p < 2048) × (tree.p < 2048)) }
-    ensures value { result ≡ out n tree.next tree.n tree.p }
-    ensures notes_after { notes.new ≡ set notes.old tree.p p }
+    requires { (n < 256) × ((p < 2048) × (tree.after.p < 2048)) }
+    ensures value { result ≡ record { place = n; after = tree.after } }
+    ensures notes_after { notes.new ≡ set notes.old tree.after.p p }
     ensures depths_after { depths.new ≡ set depths.old n depth }
 {
-    let end = tree.p;
-    notes[end] = p as u16;
+    notes[tree.after.p] = p as u16;
     depths[n] = depth;
     Out {
         place: n as u16,
-        next: tree.next,
-        n: tree.n,
-        p: end,
+        after: tree.after,
     }
 }
 
@@ -325,17 +311,17 @@ pub fn depth_of(depths: &[u8; 256], place: u16) -> u8
     ensures { result ≡ place_depth depths.now place }
 {
     if place < 256 {
-        return depths[place as usize];
+        depths[place as usize]
+    } else {
+        0
     }
-    0
 }
 
 // The depth of an array's elements.
 pub fn element_depth(depths: &[u8; 256], place: u16) -> u8
     ensures { result ≡ pred (place_depth depths.now place) }
 {
-    let d = depth_of(depths, place);
-    if d == 0 { 0 } else { d - 1 }
+    depth_of(depths, place).saturating_sub(1)
 }
 
 // The depth of the name that a leaf binds; the places of its atoms stand in a table.
@@ -355,10 +341,7 @@ pub fn depth_of_line(
         kinds::LITERAL => y + 1,
         kinds::INDEX => element_depth(depths, places[0]),
         kinds::IOTA => 1,
-        kinds::REPLICATE => {
-            let d = depth_of(depths, places[1]);
-            d + 1
-        }
+        kinds::REPLICATE => depth_of(depths, places[1]) + 1,
         _ => 0,
     }
 }
@@ -369,11 +352,7 @@ pub fn depth_of_loop(depths: &[u8; 256], kind: u8, first: u16, given: u16) -> u8
     ensures { result ≡ loop_place (loop_of kind) depths.now first given }
 {
     match kind {
-        kinds::FILTER => depth_of(depths, first),
-        kinds::REDUCE => depth_of(depths, first),
-        _ => {
-            let d = depth_of(depths, given);
-            d + 1
-        }
+        kinds::FILTER | kinds::REDUCE => depth_of(depths, first),
+        _ => depth_of(depths, given) + 1,
     }
 }

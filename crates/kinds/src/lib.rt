@@ -8,7 +8,8 @@ pub enum Atom {
     Name(u8),
 }
 
-// The kinds of nodes, most of which code lines have too.
+// The kinds of nodes, most of which code lines have too. They are numbers, and no enum: the bytes of a script file and
+// of the code table, which C lends (`engine_translate`, `engine_deliver_code`), are matched as they stand there.
 pub const FUNCTION: u8 = 0;
 
 pub const PARAMETER: u8 = 1;

@@ -5,10 +5,9 @@ use Rattle.semantics.specs.Annotate.{NameDepths}
 use Rattle.semantics_lent.specs.Form.{Test}
 use Rattle.semantics_lent.specs.Fit.{Bound, nothing_bound, with_name, Fitted, is_main}
 use Rattle.machine_code.specs.Reading.{depth_in}
+use Rattle.std.specs.Prelude.{Result, Ok, Err}
+use Rattle.lent_form.specs.declared.Fault.{Fault}
 use Rattle.lent_fit_lines.specs.declared.Fit.{Fit}
-use Rattle.lent_fit_lines.specs.declared.Fit.TheVariants.{Fits, Fault}
-use Rattle.lent_fit_lines.specs.declared.Lined.{Lined}
-use Rattle.lent_fit_lines.specs.declared.Lined.TheVariants.{Next, Bad}
 use Rattle.lent_fit_lines.specs.declared.Wants.TheVariants.{Exactly}
 use Rattle.lent_fit_lines.specs.Walk.{depths_of, first_at, second_at, signature_at}
 use Rattle.lent_fit_trees.specs.Trees.{tree_fits}
@@ -41,9 +40,9 @@ module _ (kinds : List ℕ) (operands : List ℤ) (starts : List ℕ) where
   code_fits d n = cond (is_main d (signature_at operands 0)) (functions_fit n 0) (stop 29 0)
 
 -- a function as the code tells it
-abbrev pub told_function : Fit → List ℕ → Outcome ℕ NameDepths
-told_function (Fits d q) g = done (depths_of g) q
-told_function (Fault q) g = stop 29 q
+abbrev pub told_function : Result Fit Fault → List ℕ → Outcome ℕ NameDepths
+told_function (Ok f) g = done (depths_of g) f.next
+told_function (Err e) g = stop 29 e.line
 
 -- the table has the depths of the names of the functions
 pub record Laid (table : List ℕ) (Γs : List NameDepths) : Type 0 where
@@ -62,10 +61,10 @@ pub record Lays (g : List ℕ) (f : ℕ) (table table' : List ℕ) : Type 0 wher
   pub long : length table' ≡ length table
 
 -- functions as the code tells them: where all fit, their depths stand in the table
-pub data Says (table : List ℕ) : Lined → Outcome ℕ (List NameDepths) → Type 0 where
-  all_fit : (Γs : List NameDepths) (q : ℕ) → Laid table Γs → Says table (Next q) (done Γs q)
-  at_fault : (q : ℕ) → Says table (Bad q) (stop 29 q)
+pub data Says (table : List ℕ) : Result ℕ Fault → Outcome ℕ (List NameDepths) → Type 0 where
+  all_fit : (Γs : List NameDepths) (q : ℕ) → Laid table Γs → Says table (Ok q) (done Γs q)
+  at_fault : (e : Fault) → Says table (Err e) (stop 29 e.line)
 
-pub record Told (o : Outcome ℕ (List NameDepths)) (r : Lined) (table table' : List ℕ) : Type 0 where
+pub record Told (o : Outcome ℕ (List NameDepths)) (r : Result ℕ Fault) (table table' : List ℕ) : Type 0 where
   pub says : Says table' r o
   pub kept : Kept table table'

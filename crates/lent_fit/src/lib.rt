@@ -8,32 +8,33 @@ ghost use Rattle.lent_fit_lines.specs.Walk.{bound_of, Lines, signature_at};
 ghost use Rattle.lent_fit.specs.Functions.{parameters_fit, function_fits, functions_fit, code_fits};
 ghost use Rattle.lent_fit.specs.Functions.{told_function, Told, Lays};
 
-use lent_fit_lines::{Fit, Lined, Wants, bind_new, first_at, second_at};
+use lent_fit_lines::{Fit, Wants, bind_new, first_at, second_at};
 use lent_fit_trees::fit_tree;
+use lent_form::Fault;
 
-// The n parameters from a line on.
+// How deep a function's trees stand.
+const MOST_LEVELS: u64 = 64;
+
+// The n parameters from a line on: the line behind them.
 fn fit_parameters(
     operands: &[i64],
     bound: &mut [bool; 256],
     depths: &mut [u8; 256],
     at: usize,
     n: usize,
-) -> Lined
+) -> Result<usize, Fault>
     requires { (at ≤ length operands.now) × (n ≤ 255) × (length operands.now ≤ 9223372036854775807)
         × (length bound.old ≡ 256) × (length depths.old ≡ 256) }
     ensures { Lines
         (parameters_fit operands.now n (bound_of bound.old depths.old) at)
         result bound.new depths.new }
 {
-    let mut i: usize = 0;
-    while i < n {
-        let p = at + i;
+    for p in at..at + n {
         if !bind_new(bound, depths, first_at(operands, p), second_at(operands, p)) {
-            return Lined::Bad(p);
+            return Err(Fault { line: p });
         }
-        i = i + 1;
     }
-    Lined::Next(at + n)
+    Ok(at + n)
 }
 
 // A function: the depths of its names.
@@ -43,37 +44,28 @@ fn fit_function(
     starts: &[usize; 32],
     depths: &mut [u8; 256],
     at: usize,
-) -> Fit
+) -> Result<Fit, Fault>
     requires { Cut kinds.now operands.now × (length starts.now ≡ 32) × (depths.old ≡ replicate 256 0)
         × (at < length kinds.now) }
     ensures { (function_fits kinds.now operands.now starts.now at
         ≡ told_function result depths.new) × (length depths.new ≡ 256) }
 {
     let mut bound = [false; 256];
-    match fit_parameters(
+    let n = first_at(operands, at) as usize;
+    let tree = fit_parameters(operands, &mut bound, depths, at + 1, n)?;
+    let scope = bound;
+    let result = second_at(operands, at);
+    fit_tree(
+        kinds,
         operands,
+        starts,
         &mut bound,
         depths,
-        at + 1,
-        first_at(operands, at) as usize,
-    ) {
-        Lined::Next(q) => {
-            let s = bound;
-            let result = second_at(operands, at);
-            fit_tree(
-                kinds,
-                operands,
-                starts,
-                &mut bound,
-                depths,
-                s,
-                Wants::Exactly(result),
-                q,
-                64,
-            )
-        }
-        Lined::Bad(q) => Fit::Fault(q),
-    }
+        scope,
+        Wants::Exactly(result),
+        tree,
+        MOST_LEVELS,
+    )
 }
 
 // Lays the depths of a function's names in the table.
@@ -81,11 +73,7 @@ fn lay(depths: &[u8; 256], f: usize, table: &mut [u8])
     requires { (f < 32) × (8192 ≤ length table.old) × (length depths.now ≡ 256) }
     ensures { Lays depths.now f table.old table.new }
 {
-    let mut i: usize = 0;
-    while i < 256 {
-        table[256 * f + i] = depths[i];
-        i = i + 1;
-    }
+    table[256 * f..256 * f + 256].copy_from_slice(depths);
 }
 
 // So many functions: the line behind them.
@@ -95,31 +83,22 @@ fn fit_functions(
     starts: &[usize; 32],
     functions: usize,
     table: &mut [u8],
-) -> Lined
+) -> Result<usize, Fault>
     requires { Cut kinds.now operands.now × (length starts.now ≡ 32) × (functions ≤ 32)
         × (8192 ≤ length table.old) }
     ensures { Told (functions_fit kinds.now operands.now starts.now functions 0)
         result table.old table.new }
 {
-    let mut p: usize = 0;
-    let mut f: usize = 0;
-    while f < functions {
+    let mut p = 0;
+    for f in 0..functions {
         if kinds.len() <= p {
-            return Lined::Bad(p);
+            return Err(Fault { line: p });
         }
         let mut depths = [0u8; 256];
-        match fit_function(kinds, operands, starts, &mut depths, p) {
-            Fit::Fits(_, q) => {
-                p = q;
-            }
-            Fit::Fault(q) => {
-                return Lined::Bad(q);
-            }
-        }
+        p = fit_function(kinds, operands, starts, &mut depths, p)?.next;
         lay(&depths, f, table);
-        f = f + 1;
     }
-    Lined::Next(p)
+    Ok(p)
 }
 
 // ---- the code
@@ -129,16 +108,10 @@ fn fit_functions(
 fn is_main(operands: &[i64], d: u64) -> bool
     ensures { result ≡ is_main d (signature_at operands.now 0) }
 {
-    if first_at(operands, 0) != 2 {
-        return false;
-    }
-    if second_at(operands, 1) as u64 != d {
-        return false;
-    }
-    if second_at(operands, 2) != 1 {
-        return false;
-    }
-    second_at(operands, 0) as u64 == d
+    first_at(operands, 0) == 2
+        && u64::from(second_at(operands, 1)) == d
+        && second_at(operands, 2) == 1
+        && u64::from(second_at(operands, 0)) == d
 }
 
 // The depths and scopes of code whose form was accepted, cut to its lines, for main of depth d: its lines, or the line
@@ -150,14 +123,14 @@ pub fn fit(
     functions: usize,
     d: u64,
     table: &mut [u8],
-) -> Lined
+) -> Result<usize, Fault>
     requires { Cut kinds.now operands.now × (length starts.now ≡ 32) × (functions ≤ 32)
         × (8192 ≤ length table.old) }
     ensures { Told (code_fits kinds.now operands.now starts.now d functions)
         result table.old table.new }
 {
     if !is_main(operands, d) {
-        return Lined::Bad(0);
+        return Err(Fault { line: 0 });
     }
     fit_functions(kinds, operands, starts, functions, table)
 }

@@ -1,6 +1,6 @@
 -- Lines without trees: what is read of their rows, and that the walk by positions tests them as `fit` does.
 use Rattle.std.specs.Prelude.{ℕ, ◌≤◌, ◌+◌, ◌<◌, suc, zero, ◌*◌, true, false, Bool, cond, ◌&&◌, not, ◌≡◌, refl, List}
-use Rattle.std.specs.Prelude.{map, eqb, ltb, ℤ, pos, length, get_or}
+use Rattle.std.specs.Prelude.{map, eqb, ltb, ℤ, pos, length, get_or, Ok}
 use Rattle.prelude.specs.Kit.{arith, ◌∙◌, sym, ap, some, none, Option, ne_eqb, lt-ltb, le-ltb}
 use Rattle.semantics.specs.Outcome.{done, stop, onward, ◌>>=◌, ◌>>◌, give, require}
 use Rattle.semantics.specs.Number.{sum, difference, less}
@@ -13,7 +13,7 @@ use Rattle.semantics.specs.Annotate.{atom_depth}
 use Rattle.semantics_lent.specs.Form.{skip}
 use Rattle.semantics_lent.specs.Fit.{Bound, with_name, in_scope, all_in_scope, depth_or_fault, fit_tree, fit_line}
 use Rattle.lent_passing.specs.Reading.{LeafFormed}
-use Rattle.lent_fit_lines.specs.declared.Fit.TheVariants.{Fits, Fault}
+use Rattle.lent_form.specs.Told.{faulty}
 use Rattle.lent_fit_lines.specs.declared.Wants.{Wants}
 use Rattle.machine_code.specs.Reading.{atom_at}
 use Rattle.lent_fit_lines.specs.Walk.{meant, meets, binds, leaf_fits, note_fits, placed, loops, loop_of, first_at}
@@ -138,7 +138,8 @@ module _ (K : List ℕ) (O : List ℤ) (st : List ℕ) (sig : ℕ → Signature)
   unfolding fit_tree onward require
   end_same a w S N p e = rw e (go (in_scope S a && meets w (atom_depth N.depths a)))
     where
-      go : (b : Bool) → told_end N (cond b (Fits (atom_depth N.depths a) (p + 2)) (Fault p))
+      go : (b : Bool) →
+          told_end N (cond b (Ok (record { depth = atom_depth N.depths a; next = p + 2 })) (faulty p))
           ≡ onward (λ (u : Unit {0}). skip 2 >> give (record { bound = N; depth = atom_depth N.depths a }))
           (require b 29 p)
       go true = refl

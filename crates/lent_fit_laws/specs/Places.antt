@@ -4,7 +4,7 @@ use Rattle.prelude.specs.Kit.{arith, ◌∙◌, length-append, length-map}
 use Rattle.semantics.specs.Code as C
 use Rattle.semantics_lent.specs.Form.{Lent}
 use Rattle.lent_passing.specs.Functions.{parameter_row, lent_function, lent_code}
-use Rattle.lent_fit_lines.proofs.Laws.{get_d_any}
+use Rattle.std.proofs.lemmas.List.{get_or_default}
 use Rattle.lent_form.specs.Starts as S
 use Rattle.lent_form.specs.Starts.{lent_size, Started}
 use Rattle.lent_fit_laws.specs.Functions.{Placed}
@@ -24,5 +24,5 @@ lines_are (g ∷ gs) p (suc f) h =
 
 pub started_placed : {gs : List Lent} {st : List ℕ} → Started gs st → length gs ≤ 32 → Placed st gs
 started_placed {gs = gs} {st = st} h few f k =
-    get_d_any st f 4096 0 (omega (arith, h.long, few, k)) ∙ h.at f k ∙ lines_are gs 0 f k
+    get_or_default st f 4096 0 (omega (arith, h.long, few, k)) ∙ h.at f k ∙ lines_are gs 0 f k
     ∙ (let z : 0 + length (lent_code (take f gs)) ≡ length (lent_code (take f gs)) = omega arith in z)

@@ -1,5 +1,5 @@
 -- The second walk of the code is `fit` where `form` accepted: the statement that the engine's code is held to.
-use Rattle.std.specs.Prelude.{ℕ, ◌≤◌, ◌+◌, ◌<◌, suc, zero, min, ◌≡◌, refl, List, [], ◌∷◌, ℤ, length, take}
+use Rattle.std.specs.Prelude.{ℕ, ◌≤◌, ◌+◌, ◌<◌, suc, zero, min, ◌≡◌, refl, List, [], ◌∷◌, ℤ, length, take, Result}
 use Rattle.prelude.specs.Kit.{arith, ◌∙◌, sym, ap, subst, length-take}
 use Rattle.semantics.specs.Outcome.{Outcome, done}
 use Rattle.semantics.specs.Code.{Row}
@@ -9,7 +9,7 @@ use Rattle.semantics_lent.specs.Fit.{fit}
 use Rattle.lent_passing.specs.Functions.{lent_code}
 use Rattle.lent_passing.specs.SaidFunctions.{Formable, form_said}
 use Rattle.machine_code.specs.Reading.{Cut}
-use Rattle.lent_fit_lines.specs.declared.Lined.{Lined}
+use Rattle.lent_form.specs.declared.Fault.{Fault}
 use Rattle.lent_fit.specs.Functions.{code_fits, Told}
 use Rattle.machine_code.specs.Rows.{At}
 use Rattle.lent_fit_laws.specs.Functions.{Placed, code_same}
@@ -82,7 +82,7 @@ module _ (kinds : List ℕ) (operands : List ℤ) (gs : List Lent) (lines : ℕ)
         code_same (take lines kinds) (take lines operands) st gs d said.formed stands places said.some
 
     -- so what the code says is what `fit` says, and the table has the depths that it gives
-    pub fit_told : (st : List ℕ) (d : ℕ) (r : Lined) (table table' : List ℕ) → Placed st gs →
+    pub fit_told : (st : List ℕ) (d : ℕ) (r : Result ℕ Fault) (table table' : List ℕ) → Placed st gs →
         Told (code_fits (take lines kinds) (take lines operands) st d (length gs)) r table table' →
         Told (fit d gs) r table table'
     fit_told st d r table table' places h =

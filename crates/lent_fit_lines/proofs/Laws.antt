@@ -1,9 +1,10 @@
 -- The tables of names, and the loops over atoms and parameters.
-use Rattle.prelude.specs.Kit.{ℕ, ◌≤◌, ◌+◌, ◌<◌, ◌-◌, suc, zero, arith, ℕ_discrete, add-one, true, false, Bool, cond}
-use Rattle.prelude.specs.Kit.{◌&&◌, false≢true, ◌||◌, ◌≡◌, refl, ◌∙◌, sym, ap, fun_ext, List, [], ◌∷◌, ◌++◌, map}
-use Rattle.prelude.specs.Kit.{append_assoc, append-nil, eqb, ℤ, pos, negsuc, length, get_or, set, length-set, take, drop}
+use Rattle.prelude.specs.Kit.{ℕ, ◌≤◌, ◌+◌, ◌<◌, ◌-◌, suc, arith, ℕ_discrete, add-one, true, false, Bool, cond}
+use Rattle.prelude.specs.Kit.{◌&&◌, ◌||◌, ◌≡◌, refl, ◌∙◌, sym, ap, fun_ext, List, [], ◌∷◌, ◌++◌, map}
+use Rattle.prelude.specs.Kit.{append_assoc, append-nil, eqb, ℤ, pos, negsuc, length, get_or, set, length-set, take}
 use Rattle.prelude.specs.Kit.{length-take, drop_of_length-le, get_or-set_other, get_or-set_same, drop-cons, get_or-take}
-use Rattle.prelude.specs.Kit.{take-suc-set, ne_eqb, eq-eqb}
+use Rattle.prelude.specs.Kit.{drop, take-suc-set, ne_eqb, eq-eqb, or-true, or-false}
+use Rattle.std.specs.Prelude.{Some, None}
 use Rattle.semantics.specs.Basics.{updated}
 use Rattle.semantics.specs.Code as C
 use Rattle.semantics.specs.Live.{Set, ◌∪◌, only, just}
@@ -16,24 +17,15 @@ use Rattle.lent_fit_lines.specs.Walk.{depths_from}
 
 -- ---- tables
 
-pub or_true : (a : Bool) → true ≡ (a || true)
-or_true true = refl
-or_true false = refl
-
-pub or_false : (a : Bool) → a ≡ (a || false)
-or_false true = refl
-or_false false = refl
-
 module _ (s : List Bool) (x : ℕ) (h : x < length s) where
   pub set_with : set_of (set s x true) ≡ set_of s ∪ only x
   set_with = fun_ext (λ y. go y (ℕ_discrete x y))
     where
       go : (y : ℕ) → Dec (x ≡ y) → get_or (set s x true) y false ≡ (get_or s y false || eqb x y)
-      go y (yes e) = rw (← e, eq-eqb x x refl) (get_or-set_same s x true false h ∙ or_true (get_or s x false))
-      go y (no f) = rw (ne_eqb x y f) (get_or-set_other s x y true false (λ p. f (sym p)) ∙ or_false (get_or s y false))
-
-  pub set_just : set_of (set s x true) ≡ set_of s ∪ just (x ∷ [])
-  set_just = set_with ∙ fun_ext (λ y. ap (λ (b : Bool). get_or s y false || b) (or_false (eqb x y)))
+      go y (yes e) = rw (← e, eq-eqb x x refl) (get_or-set_same s x true false h ∙ sym (or-true (get_or s x false)))
+      go y (no f) =
+          rw (ne_eqb x y f)
+          (get_or-set_other s x y true false (λ p. f (sym p)) ∙ sym (or-false (get_or s y false)))
 
 pub depths_with : (g : List ℕ) (x d : ℕ) → x < length g → depths_of (set g x d) ≡ updated (depths_of g) x d
 unfolding updated
@@ -46,12 +38,6 @@ depths_with g x d h = fun_ext (λ y. go y (ℕ_discrete x y))
 pub bound_with : (b : List Bool) (g : List ℕ) (x d : ℕ) → x < length b → x < length g →
     bound_of (set b x true) (set g x d) ≡ with_name x d (bound_of b g)
 bound_with b g x d h k = λ i. record { names = set_with b x h i; depths = depths_with g x d k i }
-
--- ---- operands
-
-pub bits_small : (z : ℤ) → low_bits z < 16777216
-bits_small (pos n) = omega arith
-bits_small (negsuc n) = omega arith
 
 -- ---- atoms
 
@@ -73,24 +59,17 @@ module _ (S : Set) (Γ : NameDepths) (K : List ℕ) (O : List ℤ) (at n : ℕ) 
         ≡ take i ds ++ map (atom_depth Γ) (atoms_from K O (n - i) (at + i))
     pub long : length ds ≡ 16
 
-  pub gathering_starts : (ds : List ℕ) → length ds ≡ 16 → Gathering 0 ds
-  gathering_starts ds l =
-      let e : n - 0 ≡ n = omega arith in
-      let f : at + 0 ≡ at = omega arith in
-      record { few = omega arith; scope = rw (e, f); depths = rw (e, f); long = l }
-
   module _ {i : ℕ} {ds : List ℕ} (g : Gathering i ds) where
     scope_turn : i < n → all_in_scope S (atoms_from K O (n - i) (at + i))
         ≡ (in_scope S (meant (atom_at K O (at + i))) && all_in_scope S (atoms_from K O (n - (i + 1)) (at + (i + 1))))
     scope_turn h = ap (all_in_scope S) (turn K O at n i h)
 
     pub gathering_stops : i < n → false ≡ in_scope S (meant (atom_at K O (at + i))) →
-        Gathered S Γ (atoms_from K O n at) n false ds
+        Gathered S Γ (atoms_from K O n at) n None
     gathering_stops h e = record {
       is = sym (g.scope ∙ scope_turn h
           ∙ ap (λ (b : Bool). b && all_in_scope S (atoms_from K O (n - (i + 1)) (at + (i + 1)))) (sym e));
-      depths = λ z. absurd (false≢true z);
-      long = g.long;
+      depths = tt;
     }
 
     pub gathering_goes : i < n → n ≤ 16 → true ≡ in_scope S (meant (atom_at K O (at + i))) → (v : ℕ) →
@@ -113,15 +92,14 @@ module _ (S : Set) (Γ : NameDepths) (K : List ℕ) (O : List ℤ) (at n : ℕ) 
         longer : take (i + 1) (set ds i v) ≡ take i ds ++ (v ∷ [])
         longer = rw add-one (take-suc-set ds i v (omega (arith, g.long, m)))
 
-    pub gathering_ends : n ≤ i → Gathered S Γ (atoms_from K O n at) n true ds
+    pub gathering_ends : n ≤ i → Gathered S Γ (atoms_from K O n at) n (Some ds)
     unfolding atoms_from
     gathering_ends h =
         let e : n - i ≡ 0 = omega arith in
         let f : i ≡ n = omega (arith, g.few) in
         record {
           is = sym (g.scope ∙ rw e);
-          depths = λ z. sym (g.depths ∙ rw (e, f) (append-nil (take n ds)));
-          long = g.long;
+          depths = (sym (g.depths ∙ rw (e, f) (append-nil (take n ds))), g.long);
         }
 
 -- ---- parameters
@@ -131,12 +109,6 @@ abbrev pub Matched : List ℤ → ℕ → ℕ → List ℕ → ℕ → Type 0
 Matched O p n ds i = same (depths_from O n p) (take n ds) ≡ same (depths_from O (n - i) (p + i)) (drop i (take n ds))
 
 module _ (O : List ℤ) (p n : ℕ) (ds : List ℕ) (l : n ≤ length ds) where
-  pub match_starts : Matched O p n ds 0
-  match_starts =
-      let e : n - 0 ≡ n = omega arith in
-      let f : p + 0 ≡ p = omega arith in
-      rw (e, f)
-
   match_step : (i : ℕ) → i < n →
       same (depths_from O (n - i) (p + i)) (drop i (take n ds)) ≡
       (eqb (second_at O (p + i)) (get_or ds i 0) && same (depths_from O (n - (i + 1)) (p + (i + 1)))
@@ -159,9 +131,3 @@ module _ (O : List ℤ) (p n : ℕ) (ds : List ℕ) (l : n ≤ length ds) where
   match_all i h v =
       let e : n - i ≡ 0 = omega arith in
       sym (v ∙ rw (e, drop_of_length-le (take n ds) {i = i} (simp length-take (omega arith))))
-
--- within a list its default does not matter
-pub get_d_any : (l : List ℕ) (i a b : ℕ) → i < length l → get_or l i a ≡ get_or l i b
-get_d_any [] i a b h = absurd (let z : ⊥ = omega arith in z)
-get_d_any (x ∷ l) zero a b h = refl
-get_d_any (x ∷ l) (suc i) a b h = get_d_any l i a b (omega arith)

@@ -1,6 +1,7 @@
 -- The second walk by positions: what a line without trees is found to have, for rows of any content. The state of a
 -- test is the position, which is the number of the line.
-use Rattle.std.specs.Prelude.{◌≡◌, Bool, true, false, cond, not, ◌&&◌, ◌||◌, List, [], ◌∷◌, map, ℕ, zero, suc, ◌+◌, ◌/◌, ◌%◌, ℤ, pos, eqb, ltb, leb, get_or, length, take}
+use Rattle.std.specs.Prelude.{◌≡◌, Bool, true, false, cond, not, ◌&&◌, ◌||◌, List, [], ◌∷◌, map, ℕ, zero, suc, ◌+◌, ◌/◌, ◌%◌, ℤ, pos, eqb, ltb, leb, get_or, length, take, is_some, IfSome}
+use Rattle.std.specs.Prelude.{Option as Optional, Some, None, Result, Ok, Err}
 use Rattle.std.proofs.Math.Option.{Option, none, some}
 use Rattle.semantics.specs.Outcome.{Outcome, done, stop}
 use Rattle.semantics.specs.Kinds.{Loop, mapping, filtering, reducing, rewriting}
@@ -14,12 +15,9 @@ use Rattle.semantics_lent.specs.Fit.{Bound, with_name, with_names, all_new, in_s
 use Rattle.kinds.specs.declared.Atom.{Atom}
 use Rattle.kinds.specs.declared.Atom.TheVariants.{Number, Name}
 use Rattle.machine_code.specs.Reading.{low_bits, atom_at}
-use Rattle.script_rules.specs.declared.Judged.{Judged}
-use Rattle.script_rules.specs.declared.Judged.TheVariants.{Has, Broken}
+use Rattle.lent_form.specs.declared.Fault.{Fault}
+use Rattle.lent_form.specs.Told.{faulty}
 use Rattle.lent_fit_lines.specs.declared.Fit.{Fit}
-use Rattle.lent_fit_lines.specs.declared.Fit.TheVariants.{Fits, Fault}
-use Rattle.lent_fit_lines.specs.declared.Lined.{Lined}
-use Rattle.lent_fit_lines.specs.declared.Lined.TheVariants.{Next, Bad}
 use Rattle.lent_fit_lines.specs.declared.Wants.{Wants}
 use Rattle.lent_fit_lines.specs.declared.Wants.TheVariants.{Any, Exactly, Under}
 
@@ -52,11 +50,11 @@ pub record Opened (test : Bool) (M : Bound) (r : Bool) (b : List Bool) (g : List
   pub deep : length g ≡ 256
 
 -- a line as the code tells it
-abbrev pub told_line : Lined → List Bool → List ℕ → Outcome ℕ Bound
-told_line (Next q) b g = done (bound_of b g) q
-told_line (Bad q) b g = stop 29 q
+abbrev pub told_line : Result ℕ Fault → List Bool → List ℕ → Outcome ℕ Bound
+told_line (Ok q) b g = done (bound_of b g) q
+told_line (Err e) b g = stop 29 e.line
 
-pub record Lines (o : Outcome ℕ Bound) (r : Lined) (b : List Bool) (g : List ℕ) : Type 0 where
+pub record Lines (o : Outcome ℕ Bound) (r : Result ℕ Fault) (b : List Bool) (g : List ℕ) : Type 0 where
   pub is : o ≡ told_line r b g
   pub long : length b ≡ 256
   pub deep : length g ≡ 256
@@ -95,10 +93,9 @@ abbrev pub start_of : List ℕ → ℕ → ℕ
 start_of starts f = get_or starts f 4096
 
 -- what is found of n atoms
-pub record Gathered (S : Set) (Γ : NameDepths) (us : List C.Atom) (n : ℕ) (r : Bool) (ds : List ℕ) : Type 0 where
-  pub is : r ≡ all_in_scope S us
-  pub depths : r ≡ true → take n ds ≡ map (atom_depth Γ) us
-  pub long : length ds ≡ 16
+pub record Gathered (S : Set) (Γ : NameDepths) (us : List C.Atom) (n : ℕ) (r : Optional (List ℕ)) : Type 0 where
+  pub is : is_some r ≡ all_in_scope S us
+  pub depths : IfSome r (λ ds. (take n ds ≡ map (atom_depth Γ) us) × (length ds ≡ 16))
 
 -- ---- lines without trees
 
@@ -131,8 +128,8 @@ abbrev pub binds : ℕ → Bool
 binds kind = not (eqb kind 14 || eqb kind 15)
 
 -- the name of a retain or a release
-abbrev pub noted : Set → NameDepths → ℕ → ℕ → Lined
-noted S Γ x p = cond (S x) (cond (eqb (Γ x) 0) (Bad p) (Next (p + 1))) (Bad p)
+abbrev pub noted : Set → NameDepths → ℕ → ℕ → Result ℕ Fault
+noted S Γ x p = cond (S x) (cond (eqb (Γ x) 0) (faulty p) (Ok (p + 1))) (faulty p)
 
 abbrev pub note_fits : ℕ → Set → Bound → Test Bound
 note_fits x S N p = cond (S x) (cond (eqb (N.depths x) 0) (stop 29 p) (done N (p + 1))) (stop 29 p)
@@ -154,8 +151,9 @@ module _ (kinds : List ℕ) (operands : List ℤ) (starts : List ℕ) where
 -- ---- ends
 
 -- an end line, by its atom
-abbrev pub ended : Wants → Set → NameDepths → C.Atom → ℕ → Fit
-ended w S Γ a p = cond (in_scope S a && meets w (atom_depth Γ a)) (Fits (atom_depth Γ a) (p + 2)) (Fault p)
+abbrev pub ended : Wants → Set → NameDepths → C.Atom → ℕ → Result Fit Fault
+ended w S Γ a p =
+    cond (in_scope S a && meets w (atom_depth Γ a)) (Ok (record { depth = atom_depth Γ a; next = p + 2 })) (faulty p)
 
 -- ---- the opening of lines with trees
 
@@ -210,11 +208,11 @@ loop_opens k S N us x ps = all_in_scope S us && (is_looped k N.depths us && all_
 abbrev pub loop_bound : Loop → Bound → List C.Atom → ℕ → List ℕ → Bound
 loop_bound k N us x ps = with_names ps (pass_depths k N.depths us) (with_name x 0 N)
 
-abbrev pub told_first : Bool → ℕ → Judged
-told_first true d = Has d
-told_first false d = Broken
+abbrev pub told_first : Bool → ℕ → Optional ℕ
+told_first true d = Some d
+told_first false d = None
 
-pub record LoopOpened (k : Loop) (S : Set) (N : Bound) (us : List C.Atom) (x : ℕ) (ps : List ℕ) (r : Judged)
+pub record LoopOpened (k : Loop) (S : Set) (N : Bound) (us : List C.Atom) (x : ℕ) (ps : List ℕ) (r : Optional ℕ)
     (b : List Bool) (g : List ℕ) (s : List Bool) : Type 0 where
   pub is : r ≡ told_first (loop_opens k S N us x ps) (depth_of N.depths us 0)
   pub gives : loop_opens k S N us x ps ≡ true → bound_of b g ≡ loop_bound k N us x ps

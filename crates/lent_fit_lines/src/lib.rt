@@ -17,23 +17,17 @@ ghost use Rattle.lent_fit_lines.specs.Walk.{start_of, Gathered, literal_within, 
 ghost use Rattle.lent_fit_lines.specs.Walk.{leaf_fits, plain_fits, ended};
 
 use kinds::Atom;
-use script_rules::Judged;
+use lent_form::Fault;
 
-// What stands for the line of a function where there is none: it is past all code.
+// What stands for the line of a function where there is none: it is past all code, where every reader finds 0, as in
+// the definition `start_of`. An Option would be tested at each reader for that 0.
 const NO_FUNCTION: usize = 4096;
 
-// A tree: its depth and the next line, or the line at fault.
+// A tree: its depth and the next line.
 #[derive(Clone, Copy)]
-pub enum Fit {
-    Fits(u8, usize),
-    Fault(usize),
-}
-
-// A line: the next one, or the line at fault.
-#[derive(Clone, Copy)]
-pub enum Lined {
-    Next(usize),
-    Bad(usize),
+pub struct Fit {
+    pub depth: u8,
+    pub next: usize,
 }
 
 // What depth a tree is to give, as is tested at its end line.
@@ -74,7 +68,7 @@ fn depth_of(depths: &[u8; 256], a: Atom) -> u8
     }
 }
 
-// Reads the depths of n atoms from a line on: whether all of them may be used.
+// The depths of n atoms from a line on; none, where one of them may not be used.
 fn gather(
     kinds: &[u8],
     operands: &[i64],
@@ -82,22 +76,20 @@ fn gather(
     depths: &[u8; 256],
     at: usize,
     n: usize,
-    ds: &mut [u8; 16],
-) -> bool
-    requires { Cut kinds.now operands.now × (at ≤ length kinds.now) × (n ≤ 16) × (length ds.old ≡ 16) }
+) -> Option<[u8; 16]>
+    requires { Cut kinds.now operands.now × (at ≤ length kinds.now) × (n ≤ 16) }
     ensures { Gathered (set_of scope.now) (depths_of depths.now)
-        (atoms_from kinds.now operands.now n at) n result ds.new }
+        (atoms_from kinds.now operands.now n at) n result }
 {
-    let mut i: usize = 0;
-    while i < n {
+    let mut ds = [0u8; 16];
+    for i in 0..n {
         let a = machine_code::atom_at(kinds, operands, at + i);
         if !usable(scope, a) {
-            return false;
+            return None;
         }
         ds[i] = depth_of(depths, a);
-        i = i + 1;
     }
-    true
+    Some(ds)
 }
 
 // Binds a name.
@@ -129,21 +121,26 @@ pub fn bind_new(bound: &mut [bool; 256], depths: &mut [u8; 256], x: u8, d: u8) -
 fn bits_at(operands: &[i64], at: usize) -> u64
     ensures { (result ≡ bits_at operands.now at) × (result < 16777216) }
 {
-    machine_code::low_bits(machine_code::operand_at(operands, at))
+    machine_code::low_bits(words::get_or(operands, at, 0))
 }
 
+// The operand's first, second and third byte. One function with the byte's number would be no plainer:
+// `part_at(operands, p, 1)` in place of `second_at(operands, p)`.
+#[tactic(auto, unfolding(crate::specs::Walk::first_at))]
 pub fn first_at(operands: &[i64], at: usize) -> u8
     ensures { result ≡ first_at operands.now at }
 {
     (bits_at(operands, at) % 256) as u8
 }
 
+#[tactic(auto, unfolding(crate::specs::Walk::second_at))]
 pub fn second_at(operands: &[i64], at: usize) -> u8
     ensures { result ≡ second_at operands.now at }
 {
     (bits_at(operands, at) / 256 % 256) as u8
 }
 
+#[tactic(auto, unfolding(crate::specs::Walk::third_at))]
 fn third_at(operands: &[i64], at: usize) -> u8
     ensures { result ≡ third_at operands.now at }
 {
@@ -155,8 +152,7 @@ fn start_of(starts: &[usize; 32], f: u8) -> usize
     requires { length starts.now ≡ 32 }
     ensures { result ≡ start_of starts.now f }
 {
-    let i = f as usize;
-    if i < 32 { starts[i] } else { NO_FUNCTION }
+    words::get_or(starts, f as usize, NO_FUNCTION)
 }
 
 // Whether the depths of the n parameters from a line on are the first n depths.
@@ -164,17 +160,16 @@ fn parameters_match(operands: &[i64], at: usize, ds: &[u8; 16], n: usize) -> boo
     requires { (n ≤ 16) × (length ds.now ≡ 16) × (at ≤ length operands.now) }
     ensures { result ≡ same (depths_from operands.now n at) (take n ds.now) }
 {
-    let mut i: usize = 0;
-    while i < n {
+    for i in 0..n {
         if second_at(operands, at + i) != ds[i] {
             return false;
         }
-        i = i + 1;
     }
     true
 }
 
 // How many atoms a line without trees has.
+#[tactic(auto, unfolding(crate::specs::Walk::count_at))]
 fn atoms_of(operands: &[i64], starts: &[usize; 32], kind: u8, at: usize) -> u8
     requires { length starts.now ≡ 32 }
     ensures { result ≡ count_at operands.now starts.now kind at }
@@ -182,39 +177,38 @@ fn atoms_of(operands: &[i64], starts: &[usize; 32], kind: u8, at: usize) -> u8
     match kind {
         kinds::CALL => first_at(operands, start_of(starts, second_at(operands, at))),
         kinds::LITERAL => second_at(operands, at),
-        kinds::LENGTH => 1,
-        kinds::IOTA => 1,
+        kinds::LENGTH | kinds::IOTA => 1,
         _ => 2,
     }
 }
 
 // A call's depth, by those of its n atoms: as many as the function has parameters.
-fn call_depth(operands: &[i64], start: usize, ds: &[u8; 16], n: usize) -> Judged
+#[tactic(auto, using(crate::proofs::Lines::call_laws))]
+fn call_depth(operands: &[i64], start: usize, ds: &[u8; 16], n: usize) -> Option<u8>
     requires { (n ≤ 16) × (length ds.now ≡ 16) × (n ≡ first_at operands.now start) }
     ensures { judged_outcome result ≡ rule_outcome
         (call_rule (signature_at operands.now start) (take n ds.now)) }
 {
     if operands.len() <= start {
-        return Judged::Has(0);
+        return Some(0);
     }
-    if parameters_match(operands, start + 1, ds, n) {
-        return Judged::Has(second_at(operands, start));
-    }
-    Judged::Broken
+    parameters_match(operands, start + 1, ds, n).then_some(second_at(operands, start))
 }
 
 // A literal's depth, by those of its n atoms and by that of its elements.
-fn literal_depth(ds: &[u8; 16], n: usize, d: u8) -> Judged
+fn literal_depth(ds: &[u8; 16], n: usize, d: u8) -> Option<u8>
     requires { (n ≤ 16) × (length ds.now ≡ 16) }
     ensures { judged_outcome result ≡ rule_outcome (literal_within d (take n ds.now)) }
 {
     if 3 < d {
-        return Judged::Broken;
+        None
+    } else {
+        script_rules::judge_all(ds, n, d, d + 1)
     }
-    script_rules::judge_all(ds, n, d, d + 1)
 }
 
 // The depth of a line without trees, by those of its n atoms.
+#[tactic(auto, unfolding(crate::specs::Walk::rule_at, crate::specs::Walk::count_at))]
 fn leaf_depth(
     operands: &[i64],
     starts: &[usize; 32],
@@ -222,7 +216,7 @@ fn leaf_depth(
     at: usize,
     ds: &[u8; 16],
     n: usize,
-) -> Judged
+) -> Option<u8>
     requires { (length starts.now ≡ 32) × (length ds.now ≡ 16) × (n ≤ 16)
         × (n ≡ count_at operands.now starts.now kind at) }
     ensures { judged_outcome result ≡ rule_outcome
@@ -240,6 +234,7 @@ fn leaf_depth(
 }
 
 // A line without trees that binds a name.
+#[tactic(auto, using(crate::proofs::Lines::leaf_laws))]
 fn fit_leaf(
     kinds: &[u8],
     operands: &[i64],
@@ -249,7 +244,7 @@ fn fit_leaf(
     scope: &[bool; 256],
     kind: u8,
     at: usize,
-) -> Lined
+) -> Result<usize, Fault>
     requires { Cut kinds.now operands.now × (at < length kinds.now) × (length starts.now ≡ 32)
         × (length bound.old ≡ 256) × (length depths.old ≡ 256) }
     ensures { Lines
@@ -257,52 +252,52 @@ fn fit_leaf(
         (set_of scope.now) (bound_of bound.old depths.old) at)
         result bound.new depths.new }
 {
+    let fault = Fault { line: at };
     let n = atoms_of(operands, starts, kind, at) as usize;
     if 16 < n {
-        return Lined::Bad(at);
+        return Err(fault);
     }
-    let mut ds = [0u8; 16];
-    if !gather(kinds, operands, scope, depths, at + 1, n, &mut ds) {
-        return Lined::Bad(at);
-    }
-    match leaf_depth(operands, starts, kind, at, &ds, n) {
-        Judged::Has(d) => {
-            if bind_new(bound, depths, first_at(operands, at), d) {
-                return Lined::Next(at + 1 + n);
-            }
-            Lined::Bad(at)
-        }
-        Judged::Broken => Lined::Bad(at),
+    let Some(ds) = gather(kinds, operands, scope, depths, at + 1, n) else {
+        return Err(fault);
+    };
+    let Some(d) = leaf_depth(operands, starts, kind, at, &ds, n) else {
+        return Err(fault);
+    };
+    if bind_new(bound, depths, first_at(operands, at), d) {
+        Ok(at + 1 + n)
+    } else {
+        Err(fault)
     }
 }
 
 // A retain or a release: of an array that may be used.
-fn fit_note(operands: &[i64], depths: &[u8; 256], scope: &[bool; 256], at: usize) -> Lined
+fn fit_note(
+    operands: &[i64],
+    depths: &[u8; 256],
+    scope: &[bool; 256],
+    at: usize,
+) -> Result<usize, Fault>
     requires { at ≤ length operands.now }
     ensures { result ≡ noted (set_of scope.now) (depths_of depths.now)
         (first_at operands.now at) at }
 {
     let x = first_at(operands, at) as usize;
-    if !scope[x] {
-        return Lined::Bad(at);
+    if scope[x] && depths[x] != 0 {
+        Ok(at + 1)
+    } else {
+        Err(Fault { line: at })
     }
-    if depths[x] == 0 {
-        return Lined::Bad(at);
-    }
-    Lined::Next(at + 1)
 }
 
 // Whether a line binds a name.
 pub fn binds(kind: u8) -> bool
     ensures { result ≡ binds kind }
 {
-    if kind == kinds::RETAIN {
-        return false;
-    }
-    kind != kinds::RELEASE
+    !matches!(kind, kinds::RETAIN | kinds::RELEASE)
 }
 
 // A line without trees.
+#[tactic(auto, using(crate::proofs::Lines::plain_laws))]
 pub fn fit_plain(
     kinds: &[u8],
     operands: &[i64],
@@ -312,7 +307,7 @@ pub fn fit_plain(
     scope: &[bool; 256],
     kind: u8,
     at: usize,
-) -> Lined
+) -> Result<usize, Fault>
     requires { Cut kinds.now operands.now × (at < length kinds.now) × (length starts.now ≡ 32)
         × (length bound.old ≡ 256) × (length depths.old ≡ 256) }
     ensures { Lines
@@ -321,9 +316,10 @@ pub fn fit_plain(
         result bound.new depths.new }
 {
     if binds(kind) {
-        return fit_leaf(kinds, operands, starts, bound, depths, scope, kind, at);
+        fit_leaf(kinds, operands, starts, bound, depths, scope, kind, at)
+    } else {
+        fit_note(operands, depths, scope, at)
     }
-    fit_note(operands, depths, scope, at)
 }
 
 // An end line.
@@ -334,18 +330,19 @@ pub fn fit_end(
     scope: &[bool; 256],
     wants: Wants,
     at: usize,
-) -> Fit
+) -> Result<Fit, Fault>
     requires { Cut kinds.now operands.now × (at < length kinds.now) }
     ensures { result ≡ ended wants (set_of scope.now) (depths_of depths.now)
         (meant (atom_at kinds.now operands.now (at + 1))) at }
 {
     let a = machine_code::atom_at(kinds, operands, at + 1);
-    if !usable(scope, a) {
-        return Fit::Fault(at);
+    let depth = depth_of(depths, a);
+    if usable(scope, a) && meets(wants, depth) {
+        Ok(Fit {
+            depth,
+            next: at + 2,
+        })
+    } else {
+        Err(Fault { line: at })
     }
-    let d = depth_of(depths, a);
-    if meets(wants, d) {
-        return Fit::Fits(d, at + 2);
-    }
-    Fit::Fault(at)
 }

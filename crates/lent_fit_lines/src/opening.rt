@@ -12,7 +12,6 @@ ghost use Rattle.lent_fit_lines.specs.Walk.{names_depths, goes_over, PassOpened,
 ghost use Rattle.lent_fit_lines.specs.Walk.{loop_judged};
 
 use crate::{Wants, bind_new, depth_of, first_at, gather, second_at, third_at, usable};
-use script_rules::Judged;
 
 // Opens an if: its guard is a number that may be used, and its name is new.
 pub fn open_if(
@@ -32,38 +31,26 @@ pub fn open_if(
         result bound.new depths.new }
 {
     let a = machine_code::atom_at(kinds, operands, at + 1);
-    if !usable(scope, a) {
-        return false;
-    }
-    if depth_of(depths, a) != 0 {
-        return false;
-    }
-    bind_new(bound, depths, first_at(operands, at), 0)
+    usable(scope, a)
+        && depth_of(depths, a) == 0
+        && bind_new(bound, depths, first_at(operands, at), 0)
 }
 
 // Whether a kind is a loop's.
 pub fn loops(kind: u8) -> bool
     ensures { result ≡ loops kind }
 {
-    match kind {
-        kinds::MAP => true,
-        kinds::FILTER => true,
-        kinds::REDUCE => true,
-        kinds::REWRITE => true,
-        _ => false,
-    }
+    matches!(
+        kind,
+        kinds::MAP | kinds::FILTER | kinds::REDUCE | kinds::REWRITE
+    )
 }
 
 // How many atoms a loop has: a reduce has its start before its array.
 pub fn loop_atoms(kind: u8) -> usize
     ensures { result ≡ loop_count (loop_of kind) }
 {
-    match kind {
-        kinds::REWRITE => 1,
-        kinds::FILTER => 1,
-        kinds::REDUCE => 2,
-        _ => 1,
-    }
+    if kind == kinds::REDUCE { 2 } else { 1 }
 }
 
 // Whether a loop may go over an array of a depth.
@@ -72,8 +59,6 @@ fn goes_over(kind: u8, array: u8) -> bool
 {
     match kind {
         kinds::REWRITE => array == 1,
-        kinds::FILTER => 0 < array,
-        kinds::REDUCE => 0 < array,
         _ => 0 < array,
     }
 }
@@ -121,12 +106,11 @@ fn open_pass(
 {
     let y = second_at(operands, at);
     if kind == kinds::REDUCE {
-        if !open_name(bound, depths, scope, y, first) {
-            return false;
-        }
-        return open_name(bound, depths, scope, third_at(operands, at), element);
+        open_name(bound, depths, scope, y, first)
+            && open_name(bound, depths, scope, third_at(operands, at), element)
+    } else {
+        open_name(bound, depths, scope, y, element)
     }
-    open_name(bound, depths, scope, y, element)
 }
 
 // Opens a loop: what it goes over is an array that may be used, and its names are new. The depth of its first atom.
@@ -138,7 +122,7 @@ pub fn open_loop(
     scope: &mut [bool; 256],
     kind: u8,
     at: usize,
-) -> Judged
+) -> Option<u8>
     requires { Cut kinds.now operands.now × (at < length kinds.now)
         × (length bound.old ≡ 256) × (length depths.old ≡ 256) × (length scope.old ≡ 256) }
     ensures { LoopOpened (loop_of kind)
@@ -149,22 +133,13 @@ pub fn open_loop(
         result bound.new depths.new scope.new }
 {
     let n = loop_atoms(kind);
-    let mut ds = [0u8; 16];
-    if !gather(kinds, operands, scope, depths, at + 1, n, &mut ds) {
-        return Judged::Broken;
-    }
+    let ds = gather(kinds, operands, scope, depths, at + 1, n)?;
     let array = ds[n - 1];
-    if !goes_over(kind, array) {
-        return Judged::Broken;
-    }
-    if !bind_new(bound, depths, first_at(operands, at), 0) {
-        return Judged::Broken;
+    if !goes_over(kind, array) || !bind_new(bound, depths, first_at(operands, at), 0) {
+        return None;
     }
     let first = ds[0];
-    if open_pass(operands, bound, depths, scope, kind, at, first, array - 1) {
-        return Judged::Has(first);
-    }
-    Judged::Broken
+    open_pass(operands, bound, depths, scope, kind, at, first, array - 1).then_some(first)
 }
 
 // What depth a loop's tree is to give, by that of the loop's first atom.
@@ -172,29 +147,21 @@ pub fn loop_wants(kind: u8, first: u8) -> Wants
     ensures { result ≡ loop_wants (loop_of kind) first }
 {
     match kind {
-        kinds::REWRITE => Wants::Exactly(0),
-        kinds::FILTER => Wants::Exactly(0),
+        kinds::REWRITE | kinds::FILTER => Wants::Exactly(0),
         kinds::REDUCE => Wants::Exactly(first),
         _ => Wants::Under(4),
     }
 }
 
 // The depth of a map that rewrites an array of a depth.
-fn rewrite_depth(array: u8, d: u8) -> Judged
+fn rewrite_depth(array: u8, d: u8) -> Option<u8>
     ensures { judged_outcome result ≡ rule_outcome (loop_judged rewriting array d) }
 {
-    if array != 1 {
-        return Judged::Broken;
-    }
-    if d == 0 {
-        Judged::Has(1)
-    } else {
-        Judged::Broken
-    }
+    (array == 1 && d == 0).then_some(1)
 }
 
 // A loop's depth, by those of its first atom and of its tree.
-pub fn loop_depth(kind: u8, first: u8, d: u8) -> Judged
+pub fn loop_depth(kind: u8, first: u8, d: u8) -> Option<u8>
     ensures { judged_outcome result ≡ rule_outcome (loop_judged (loop_of kind) first d) }
 {
     match kind {

@@ -3,32 +3,38 @@ use Rattle.prelude.specs.Kit.{ℕ, ◌≤◌, ◌+◌, ◌<◌, ◌-◌, suc, ar
 use Rattle.prelude.specs.Kit.{none, Option, List, eqb, ltb, ℤ, length, get_or, set, ne_eqb, lt-ltb, eq-eqb, le-ltb}
 use Rattle.semantics.specs.Outcome.{Outcome, done, stop, onward, ◌>>=◌, give}
 use Rattle.semantics.specs.Kinds.{Loop}
-use Rattle.semantics.specs.Live.{Set, ◌∪◌, only, just}
-use Rattle.semantics.specs.Annotate.{depth_of}
+use Rattle.semantics.specs.Live.{Set, ◌∪◌, only}
 use Rattle.semantics_lent.specs.Fit.{Bound, with_name, Fitted}
 use Rattle.machine_code.specs.Reading.{atom_at}
-use Rattle.script_rules.specs.declared.Judged.{Judged}
-use Rattle.script_rules.specs.declared.Judged.TheVariants.{Has, Broken}
+use Rattle.std.specs.Prelude.{Option as Optional, Some, None, Result, Ok, Err}
 use Rattle.script_rules.specs.Rules.{judged_outcome, rule_outcome}
 use Rattle.lent_fit_lines.proofs.Laws.{set_with}
+use Rattle.lent_form.specs.declared.Fault.{Fault}
 use Rattle.lent_fit_lines.specs.declared.Fit.{Fit}
-use Rattle.lent_fit_lines.specs.declared.Fit.TheVariants.{Fits, Fault}
-use Rattle.lent_fit_lines.specs.declared.Lined.{Lined}
-use Rattle.lent_fit_lines.specs.declared.Lined.TheVariants.{Next, Bad}
 use Rattle.lent_fit_lines.specs.declared.Wants.{Wants}
 use Rattle.lent_fit_lines.specs.declared.Wants.TheVariants.{Any, Exactly}
 use Rattle.lent_fit_lines.specs.Walk.{set_of, depths_of, bound_of, meant, ended, binds, plain_fits, if_opens, loops}
-use Rattle.lent_fit_lines.specs.Walk.{loop_of, loop_count, pass_names, loop_opens, loop_bound, loop_wants, loop_judged}
-use Rattle.lent_fit_lines.specs.Walk.{first_at, second_at, third_at, atoms_from, Opened, LoopOpened, told_line}
+use Rattle.lent_fit_lines.specs.Walk.{loop_of, loop_count, pass_names, loop_opens, loop_wants, loop_judged}
+use Rattle.lent_fit_lines.specs.Walk.{first_at, second_at, third_at, atoms_from, Opened, LoopOpened}
 use Rattle.lent_fit_lines.specs.Walk.{told_first}
 use Rattle.lent_fit_trees.specs.Trees.{told_tree, told_end, Below, loop_placed, if_fits, loop_fits, line_fits}
 use Rattle.lent_fit_trees.specs.Trees.{scope_then, end_fits, lines_fit, tree_fits}
 
+-- ---- what an opening tells
+
+not_opened : (t : Bool) (d : ℕ) → None ≡ told_first t d → t ≡ false
+not_opened true d e = let z : ◌≡◌ {A = ℕ} 0 1 = cc in absurd (omega arith)
+not_opened false d e = refl
+
+opened : (t : Bool) (d c : ℕ) → Some c ≡ told_first t d → (t ≡ true) × (d ≡ c)
+opened true d c e = (refl, let z : d ≡ c = cc in z)
+opened false d c e = let z : ◌≡◌ {A = ℕ} 0 1 = cc in absurd (omega arith)
+
 -- ---- trees
 
-pub told_as : (r : Fit) (b : List Bool) (g : List ℕ) → told_end (bound_of b g) r ≡ told_tree r b g
-told_as (Fits d q) b g = refl
-told_as (Fault q) b g = refl
+pub told_as : (r : Result Fit Fault) (b : List Bool) (g : List ℕ) → told_end (bound_of b g) r ≡ told_tree r b g
+told_as (Ok f) b g = refl
+told_as (Err e) b g = refl
 
 module _ (K : List ℕ) (O : List ℤ) (st : List ℕ) where
   pub no_levels : (m : ℕ) (w : Wants) (S : Set) (N : Bound) (p : ℕ) → m ≡ 0 → tree_fits K O st m w S N p ≡ stop 29 p
@@ -87,35 +93,30 @@ module _ (K : List ℕ) (O : List ℤ) (st : List ℕ) where
     going_past h l = takes h ∙ rw (le-ltb p (length K) l)
 
     module _ (h : 0 < left) (within : p < length K) where
-      pub going_ends : kind ≡ 16 → (r : Fit) →
+      pub going_ends : kind ≡ 16 → (r : Result Fit Fault) →
           r ≡ ended w (set_of s) (depths_of g) (meant (atom_at K O (p + 1))) p → Whole ≡ told_tree r b g
       going_ends e r f = takes h
           ∙ rw (lt-ltb p (length K) within, eq-eqb kind 16 e) (ap (told_end (bound_of b g)) (sym f) ∙ told_as r b g)
 
-      module _ (more : kind ≡ 16 → ⊥) (r : Lined) (b' : List Bool) (g' : List ℕ)
-          (is : line_fits K O st Under kind (set_of s) (bound_of b g) p ≡ told_line r b' g') where
+      module _ (more : kind ≡ 16 → ⊥) where
         abbrev rest : Bound → ℕ → Outcome ℕ Fitted
         rest M = lines_fit K O st Under (left - 1) w (scope_then K O st kind (first_at O p) (set_of s)) M
 
-        lined : Whole ≡ onward rest (told_line r b' g')
-        lined = takes h ∙ rw (lt-ltb p (length K) within, ne_eqb kind 16 more) (ap (onward rest) is)
+        lined : Whole ≡ onward rest (line_fits K O st Under kind (set_of s) (bound_of b g) p)
+        lined = takes h ∙ rw (lt-ltb p (length K) within, ne_eqb kind 16 more)
 
-        pub going_stops : (q : ℕ) → r ≡ Bad q → Whole ≡ stop 29 q
+        pub going_stops : (e : Fault) → line_fits K O st Under kind (set_of s) (bound_of b g) p ≡ stop 29 e.line →
+            Whole ≡ stop 29 e.line
         unfolding onward
-        going_stops q e = lined ∙ ap (λ (l : Lined). onward rest (told_line l b' g')) e
+        going_stops e is = lined ∙ rw is
 
-        pub going_on : (q : ℕ) → r ≡ Next q → (s' : List Bool) → length s' ≡ 256 → length b' ≡ 256 → length g' ≡ 256 →
+        pub going_on : (q : ℕ) (b' : List Bool) (g' : List ℕ) →
+            line_fits K O st Under kind (set_of s) (bound_of b g) p ≡ done (bound_of b' g') q → (s' : List Bool) →
+            length s' ≡ 256 → length b' ≡ 256 → length g' ≡ 256 →
             set_of s' ≡ scope_then K O st kind (first_at O p) (set_of s) → (n : ℕ) → n ≡ left - 1 →
             Going levels w S N at s' b' g' q n
         unfolding onward
-        going_on q e s' x y z f n k = record {
-          same = lined ∙ ap (λ (l : Lined). onward rest (told_line l b' g')) e
-              ∙ ap (λ (U : Set). lines_fit K O st Under (left - 1) w U (bound_of b' g') q) (sym f)
-              ∙ ap (λ (m : ℕ). lines_fit K O st Under m w (set_of s') (bound_of b' g') q) (sym k);
-          wide = x;
-          long = y;
-          deep = z;
-        }
+        going_on q b' g' is s' x y z f n k = record { same = lined ∙ rw (is, f, k); wide = x; long = y; deep = z }
 
   -- ---- lines
 
@@ -134,131 +135,106 @@ module _ (K : List ℕ) (O : List ℤ) (st : List ℕ) where
 
   -- ---- ifs
 
-  module _ (T : Below) (S : Set) (N : Bound) (p : ℕ) {r : Bool} {b₁ : List Bool} {g₁ : List ℕ}
-      (o : Opened (if_opens S N (meant (atom_at K O (p + 1))) (first_at O p)) (with_name (first_at O p) 0 N) r b₁ g₁)
-    where
-      pub if_closed : r ≡ false → if_fits K O st T S N p ≡ stop 29 p
-      unfolding if_fits
-      if_closed e = rw (sym o.is ∙ e)
+  module _ (T : Below) (S : Set) (N : Bound) (p : ℕ) (b₁ : List Bool) (g₁ : List ℕ) where
+    abbrev if_opening : Bool → Type 0
+    if_opening r =
+        Opened (if_opens S N (meant (atom_at K O (p + 1))) (first_at O p)) (with_name (first_at O p) 0 N) r b₁ g₁
 
+    pub if_closed : if_opening false → if_fits K O st T S N p ≡ stop 29 p
+    unfolding if_fits
+    if_closed o = rw (← o.is)
+
+    module _ (o : if_opening true) where
       abbrev second : Fitted → ℕ → Outcome ℕ Bound
       second A = T (Exactly A.depth) S A.bound >>= λ B. give (with_name (first_at O p) B.depth B.bound)
 
-      module _ (e : r ≡ true) (r₁ : Fit) (b₂ : List Bool) (g₂ : List ℕ)
-          (is₁ : T Any S (bound_of b₁ g₁) (p + 2) ≡ told_tree r₁ b₂ g₂) where
-        if_goes : if_fits K O st T S N p ≡ onward second (told_tree r₁ b₂ g₂)
-        unfolding if_fits
-        if_goes = rw (sym o.is ∙ e)
-            (ap (λ (M : Bound). onward second (T Any S M (p + 2))) (sym (o.gives e)) ∙ ap (onward second) is₁)
+      if_goes : if_fits K O st T S N p ≡ onward second (T Any S (bound_of b₁ g₁) (p + 2))
+      unfolding if_fits
+      if_goes = rw (← o.is, o.gives refl)
 
-        pub if_first : (q : ℕ) → r₁ ≡ Fault q → if_fits K O st T S N p ≡ stop 29 q
+      pub if_first : (e : Fault) → T Any S (bound_of b₁ g₁) (p + 2) ≡ stop 29 e.line →
+          if_fits K O st T S N p ≡ stop 29 e.line
+      unfolding onward
+      if_first e is = if_goes ∙ rw is
+
+      module _ (f : Fit) (b₂ : List Bool) (g₂ : List ℕ)
+          (is₁ : T Any S (bound_of b₁ g₁) (p + 2) ≡ told_tree (Ok f) b₂ g₂) where
+        pub if_second : (e : Fault) → T (Exactly f.depth) S (bound_of b₂ g₂) f.next ≡ stop 29 e.line →
+            if_fits K O st T S N p ≡ stop 29 e.line
         unfolding onward
-        if_first q f = if_goes ∙ ap (λ (f : Fit). onward second (told_tree f b₂ g₂)) f
+        if_second e is₂ = if_goes ∙ rw (is₁, is₂)
 
-        module _ (d q : ℕ) (f : r₁ ≡ Fits d q) (r₂ : Fit) (b₃ : List Bool) (g₃ : List ℕ)
-            (is₂ : T (Exactly d) S (bound_of b₂ g₂) q ≡ told_tree r₂ b₃ g₃) where
-          abbrev last : Fitted → ℕ → Outcome ℕ Bound
-          last B = give (with_name (first_at O p) B.depth B.bound)
-
-          if_on : if_fits K O st T S N p ≡ onward last (told_tree r₂ b₃ g₃)
-          unfolding onward
-          if_on = if_goes ∙ ap (λ (f : Fit). onward second (told_tree f b₂ g₂)) f ∙ ap (onward last) is₂
-
-          pub if_second : (t : ℕ) → r₂ ≡ Fault t → if_fits K O st T S N p ≡ stop 29 t
-          unfolding onward
-          if_second t h = if_on ∙ ap (λ (f : Fit). onward last (told_tree f b₃ g₃)) h
-
-          pub if_done : (c t : ℕ) → r₂ ≡ Fits c t → (x : ℕ) → x ≡ first_at O p → (b₄ : List Bool) (g₄ : List ℕ) →
-              bound_of b₄ g₄ ≡ with_name x c (bound_of b₃ g₃) → if_fits K O st T S N p ≡ done (bound_of b₄ g₄) t
-          unfolding onward
-          if_done c t h x i b₄ g₄ j = if_on ∙ ap (λ (f : Fit). onward last (told_tree f b₃ g₃)) h
-              ∙ ap (λ (y : ℕ). done (with_name y c (bound_of b₃ g₃)) t) (sym i) ∙ ap (λ (M : Bound). done M t) (sym j)
+        pub if_done : (h : Fit) (b₃ : List Bool) (g₃ : List ℕ) →
+            T (Exactly f.depth) S (bound_of b₂ g₂) f.next ≡ told_tree (Ok h) b₃ g₃ → (x : ℕ) → x ≡ first_at O p →
+            (b₄ : List Bool) (g₄ : List ℕ) → bound_of b₄ g₄ ≡ with_name x h.depth (bound_of b₃ g₃) →
+            if_fits K O st T S N p ≡ done (bound_of b₄ g₄) h.next
+        unfolding onward
+        if_done h b₃ g₃ is₂ x i b₄ g₄ j = if_goes ∙ rw (is₁, is₂, ← i) (ap (λ (M : Bound). done M h.next) (sym j))
 
   -- ---- loops
 
-  module _ (T : Below) (kind : ℕ) (S : Set) (N : Bound) (p : ℕ) {r : Judged} {b₁ : List Bool} {g₁ : List ℕ}
-      {s₁ : List Bool}
-      (o : LoopOpened (loop_of kind) S N (atoms_from K O (loop_count (loop_of kind)) (p + 1)) (first_at O p)
-      (pass_names (loop_of kind) (second_at O p) (third_at O p)) r b₁ g₁ s₁) where
+  module _ (T : Below) (kind : ℕ) (S : Set) (N : Bound) (p : ℕ) (b₁ : List Bool) (g₁ : List ℕ)
+      (s₁ : List Bool) where
     abbrev k : Loop
     k = loop_of kind
+
+    abbrev loop_opening : Optional ℕ → Type 0
+    loop_opening r =
+        LoopOpened k S N (atoms_from K O (loop_count k) (p + 1)) (first_at O p)
+        (pass_names k (second_at O p) (third_at O p)) r b₁ g₁ s₁
 
     abbrev opens : Bool
     opens = loop_opens k S N (atoms_from K O (loop_count k) (p + 1)) (first_at O p)
         (pass_names k (second_at O p) (third_at O p))
 
-    abbrev depth : ℕ
-    depth = depth_of N.depths (atoms_from K O (loop_count k) (p + 1)) 0
-
-    not_opened : (t : Bool) (d : ℕ) → Broken ≡ told_first t d → t ≡ false
-    not_opened true d e = let z : ◌≡◌ {A = ℕ} 0 1 = cc in absurd (omega arith)
-    not_opened false d e = refl
-
-    opened : (t : Bool) (d c : ℕ) → Has c ≡ told_first t d → (t ≡ true) × (c ≡ d)
-    opened true d c e = (refl, let z : c ≡ d = cc in z)
-    opened false d c e = let z : ◌≡◌ {A = ℕ} 0 1 = cc in absurd (omega arith)
-
-    pub loop_closed : r ≡ Broken → loop_fits K O st T kind S N p ≡ stop 29 p
+    pub loop_closed : loop_opening None → loop_fits K O st T kind S N p ≡ stop 29 p
     unfolding loop_fits
-    loop_closed e = rw (not_opened opens depth (sym e ∙ o.is))
+    loop_closed o = rw (not_opened opens _ o.is)
 
-    module _ (c : ℕ) (e : r ≡ Has c) where
-      is_open : opens ≡ true
-      is_open = (opened opens depth c (sym e ∙ o.is)).0
-
-      is_first : c ≡ depth
-      is_first = (opened opens depth c (sym e ∙ o.is)).1
-
+    module _ (c : ℕ) (o : loop_opening (Some c)) (w : Wants) (ws : w ≡ loop_wants k c) (n : ℕ)
+        (ns : n ≡ loop_count k) where
       abbrev after : Fitted → ℕ → Outcome ℕ Bound
       after A = loop_placed (loop_judged k c A.depth) (first_at O p) A.bound
 
-      module _ (w : Wants) (ws : w ≡ loop_wants k c) (q : ℕ) (qs : q ≡ p + 1 + loop_count k) (r₁ : Fit) (b₂ : List Bool)
-          (g₂ : List ℕ) (is₁ : T w (set_of s₁) (bound_of b₁ g₁) q ≡ told_tree r₁ b₂ g₂) where
-        loop_goes : loop_fits K O st T kind S N p ≡ onward after (told_tree r₁ b₂ g₂)
-        unfolding loop_fits
-        loop_goes = rw is_open
-            (ap (λ (d : ℕ). onward (λ (A : Fitted). loop_placed (loop_judged k d A.depth) (first_at O p) A.bound)
-            (T (loop_wants k d) (S ∪ just (pass_names k (second_at O p) (third_at O p)))
-            (loop_bound k N (atoms_from K O (loop_count k) (p + 1)) (first_at O p)
-            (pass_names k (second_at O p) (third_at O p))) (p + 1 + loop_count k))) (sym is_first)
-            ∙ ap (λ (U : Set). onward after (T (loop_wants k c) U
-            (loop_bound k N (atoms_from K O (loop_count k) (p + 1)) (first_at O p)
-            (pass_names k (second_at O p) (third_at O p))) (p + 1 + loop_count k))) (sym (o.scope is_open))
-            ∙ ap (λ (M : Bound). onward after (T (loop_wants k c) (set_of s₁) M (p + 1 + loop_count k)))
-            (sym (o.gives is_open))
-            ∙ ap (λ (v : Wants). onward after (T v (set_of s₁) (bound_of b₁ g₁) (p + 1 + loop_count k))) (sym ws)
-            ∙ ap (λ (n : ℕ). onward after (T w (set_of s₁) (bound_of b₁ g₁) n)) (sym qs)
-            ∙ ap (onward after) is₁)
+      abbrev body : Outcome ℕ Fitted
+      body = T w (set_of s₁) (bound_of b₁ g₁) (p + 1 + n)
 
-        pub loop_tree : (t : ℕ) → r₁ ≡ Fault t → loop_fits K O st T kind S N p ≡ stop 29 t
+      loop_goes : loop_fits K O st T kind S N p ≡ onward after body
+      unfolding loop_fits
+      loop_goes =
+          let is_open = opened opens _ c o.is in
+          rw (is_open.0, is_open.1, ← o.scope is_open.0, ← o.gives is_open.0, ws, ns)
+
+      pub loop_tree : (e : Fault) → body ≡ stop 29 e.line → loop_fits K O st T kind S N p ≡ stop 29 e.line
+      unfolding onward
+      loop_tree e is = loop_goes ∙ rw is
+
+      module _ (f : Fit) (b₂ : List Bool) (g₂ : List ℕ) (is : body ≡ told_tree (Ok f) b₂ g₂) where
+        loop_on : loop_fits K O st T kind S N p
+            ≡ loop_placed (loop_judged k c f.depth) (first_at O p) (bound_of b₂ g₂) f.next
         unfolding onward
-        loop_tree t f = loop_goes ∙ ap (λ (f : Fit). onward after (told_tree f b₂ g₂)) f
+        loop_on = loop_goes ∙ rw is
 
-        module _ (d t : ℕ) (f : r₁ ≡ Fits d t) (j : Judged)
-            (js : judged_outcome j ≡ rule_outcome (loop_judged k c d)) where
-          loop_on : loop_fits K O st T kind S N p ≡ loop_placed (loop_judged k c d) (first_at O p) (bound_of b₂ g₂) t
-          unfolding onward
-          loop_on = loop_goes ∙ ap (λ (f : Fit). onward after (told_tree f b₂ g₂)) f
+        pub loop_broken : judged_outcome None ≡ rule_outcome (loop_judged k c f.depth) →
+            loop_fits K O st T kind S N p ≡ stop 29 f.next
+        loop_broken js = loop_on ∙ go (loop_judged k c f.depth) js
+          where
+            go : (m : Option ℕ) → stop 7 tt ≡ rule_outcome m →
+                loop_placed m (first_at O p) (bound_of b₂ g₂) f.next ≡ stop 29 f.next
+            go none i = refl
+            go (some u) i = let z : ◌≡◌ {A = ℕ} 0 1 = cc in absurd (omega arith)
 
-          pub loop_broken : j ≡ Broken → loop_fits K O st T kind S N p ≡ stop 29 t
-          loop_broken h = loop_on ∙ go (loop_judged k c d) (sym (ap judged_outcome h) ∙ js)
-            where
-              go : (m : Option ℕ) → stop 7 tt ≡ rule_outcome m →
-                  loop_placed m (first_at O p) (bound_of b₂ g₂) t ≡ stop 29 t
-              go none i = refl
-              go (some u) i = let z : ◌≡◌ {A = ℕ} 0 1 = cc in absurd (omega arith)
-
-          pub loop_done : (u : ℕ) → j ≡ Has u → (x : ℕ) → x ≡ first_at O p → (b₃ : List Bool) (g₃ : List ℕ) →
-              bound_of b₃ g₃ ≡ with_name x u (bound_of b₂ g₂) →
-              loop_fits K O st T kind S N p ≡ done (bound_of b₃ g₃) t
-          loop_done u h x i b₃ g₃ l = loop_on ∙ go (loop_judged k c d) (sym (ap judged_outcome h) ∙ js)
-            where
-              go : (m : Option ℕ) → done u tt ≡ rule_outcome m →
-                  loop_placed m (first_at O p) (bound_of b₂ g₂) t ≡ done (bound_of b₃ g₃) t
-              go none i = let z : ◌≡◌ {A = ℕ} 0 1 = cc in absurd (omega arith)
-              go (some v) n =
-                  let z : u ≡ v = cc in
-                  rw (← i, ← z) (ap (λ (M : Bound). done M t) (sym l))
+        pub loop_done : (u : ℕ) → judged_outcome (Some u) ≡ rule_outcome (loop_judged k c f.depth) → (x : ℕ) →
+            x ≡ first_at O p → (b₃ : List Bool) (g₃ : List ℕ) → bound_of b₃ g₃ ≡ with_name x u (bound_of b₂ g₂) →
+            loop_fits K O st T kind S N p ≡ done (bound_of b₃ g₃) f.next
+        loop_done u js x i b₃ g₃ l = loop_on ∙ go (loop_judged k c f.depth) js
+          where
+            go : (m : Option ℕ) → done u tt ≡ rule_outcome m →
+                loop_placed m (first_at O p) (bound_of b₂ g₂) f.next ≡ done (bound_of b₃ g₃) f.next
+            go none i = let z : ◌≡◌ {A = ℕ} 0 1 = cc in absurd (omega arith)
+            go (some v) n =
+                let z : u ≡ v = cc in
+                rw (← i, ← z) (ap (λ (M : Bound). done M f.next) (sym l))
 
 -- the scope after a line
 module _ (K : List ℕ) (O : List ℤ) (st : List ℕ) (kind x : ℕ) (s : List Bool) where

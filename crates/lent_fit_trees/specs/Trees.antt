@@ -7,8 +7,9 @@ use Rattle.semantics.specs.Annotate.{depth_of}
 use Rattle.semantics_lent.specs.Form.{Test}
 use Rattle.semantics_lent.specs.Fit.{Bound, with_name, Fitted}
 use Rattle.machine_code.specs.Reading.{atom_at, Cut}
+use Rattle.std.specs.Prelude.{Result, Ok, Err}
+use Rattle.lent_form.specs.declared.Fault.{Fault}
 use Rattle.lent_fit_lines.specs.declared.Fit.{Fit}
-use Rattle.lent_fit_lines.specs.declared.Fit.TheVariants.{Fits, Fault}
 use Rattle.lent_fit_lines.specs.declared.Wants.{Wants}
 use Rattle.lent_fit_lines.specs.declared.Wants.TheVariants.{Any, Exactly}
 use Rattle.lent_fit_lines.specs.Walk.{bound_of, meant, ended, binds, plain_fits, if_opens, loops, loop_of, loop_count}
@@ -16,19 +17,19 @@ use Rattle.lent_fit_lines.specs.Walk.{pass_names, loop_opens, loop_bound, loop_w
 use Rattle.lent_fit_lines.specs.Walk.{third_at, atoms_from}
 
 -- a tree as the code tells it
-abbrev pub told_tree : Fit → List Bool → List ℕ → Outcome ℕ Fitted
-told_tree (Fits d q) b g = done (record { bound = bound_of b g; depth = d }) q
-told_tree (Fault q) b g = stop 29 q
+abbrev pub told_tree : Result Fit Fault → List Bool → List ℕ → Outcome ℕ Fitted
+told_tree (Ok f) b g = done (record { bound = bound_of b g; depth = f.depth }) f.next
+told_tree (Err e) b g = stop 29 e.line
 
-pub record Trees (o : Outcome ℕ Fitted) (r : Fit) (b : List Bool) (g : List ℕ) : Type 0 where
+pub record Trees (o : Outcome ℕ Fitted) (r : Result Fit Fault) (b : List Bool) (g : List ℕ) : Type 0 where
   pub is : o ≡ told_tree r b g
   pub long : length b ≡ 256
   pub deep : length g ≡ 256
 
 -- an end line leaves the names as they are
-abbrev pub told_end : Bound → Fit → Outcome ℕ Fitted
-told_end N (Fits d q) = done (record { bound = N; depth = d }) q
-told_end N (Fault q) = stop 29 q
+abbrev pub told_end : Bound → Result Fit Fault → Outcome ℕ Fitted
+told_end N (Ok f) = done (record { bound = N; depth = f.depth }) f.next
+told_end N (Err e) = stop 29 e.line
 
 -- what the walk asks of its arrays
 pub record Ready (kinds : List ℕ) (operands : List ℤ) (starts : List ℕ) (b : List Bool) (g : List ℕ) : Type 0 where

@@ -6,11 +6,11 @@ ghost use Rattle.lent_fit_lines.specs.Walk.{set_of, bound_of, Lines};
 ghost use Rattle.lent_fit_trees.specs.Trees.{Trees, Ready, if_fits, loop_fits, line_fits, tree_fits};
 
 use lent_fit_lines::opening::{loop_atoms, loop_depth, loop_wants, loops, open_if, open_loop};
-use lent_fit_lines::{Fit, Lined, Wants, bind, binds, first_at, fit_end, fit_plain};
-use script_rules::Judged;
+use lent_fit_lines::{Fit, Wants, bind, binds, first_at, fit_end, fit_plain};
+use lent_form::Fault;
 
 // A tree in which some names may be used, with so many levels of trees left.
-#[cycle(fit_if_fit_line_fit_loop_fit_tree)]
+#[cycle(fit_trees)]
 pub fn fit_tree(
     kinds: &[u8],
     operands: &[i64],
@@ -21,7 +21,7 @@ pub fn fit_tree(
     wants: Wants,
     at: usize,
     levels: u64,
-) -> Fit
+) -> Result<Fit, Fault>
     requires { Ready kinds.now operands.now starts.now bound.old depths.old × (length scope ≡ 256) }
     ensures { Trees
         (tree_fits kinds.now operands.now starts.now levels wants (set_of scope)
@@ -29,20 +29,19 @@ pub fn fit_tree(
         result bound.new depths.new }
 {
     if levels == 0 {
-        return Fit::Fault(at);
+        return Err(Fault { line: at });
     }
     let mut s = scope;
     let mut p = at;
-    let mut left = machine_code::MOST_LINES;
-    while 0 < left {
+    for _ in 0..machine_code::MOST_LINES {
         if kinds.len() <= p {
-            return Fit::Fault(p);
+            return Err(Fault { line: p });
         }
         let kind = kinds[p];
         if kind == kinds::END {
             return fit_end(kinds, operands, depths, &s, wants, p);
         }
-        match fit_line(
+        let next = fit_line(
             kinds,
             operands,
             starts,
@@ -52,24 +51,17 @@ pub fn fit_tree(
             kind,
             p,
             levels - 1,
-        ) {
-            Lined::Next(q) => {
-                if binds(kind) {
-                    s[first_at(operands, p) as usize] = true;
-                }
-                p = q;
-            }
-            Lined::Bad(q) => {
-                return Fit::Fault(q);
-            }
+        )?;
+        if binds(kind) {
+            s[first_at(operands, p) as usize] = true;
         }
-        left = left - 1;
+        p = next;
     }
-    Fit::Fault(p)
+    Err(Fault { line: p })
 }
 
 // A line with its trees.
-#[cycle(fit_if_fit_line_fit_loop_fit_tree)]
+#[cycle(fit_trees)]
 fn fit_line(
     kinds: &[u8],
     operands: &[i64],
@@ -80,7 +72,7 @@ fn fit_line(
     kind: u8,
     at: usize,
     levels: u64,
-) -> Lined
+) -> Result<usize, Fault>
     requires { Ready kinds.now operands.now starts.now bound.old depths.old × (length scope ≡ 256)
         × (at < length kinds.now) }
     ensures { Lines
@@ -90,18 +82,18 @@ fn fit_line(
         result bound.new depths.new }
 {
     if kind == kinds::IF {
-        return fit_if(kinds, operands, starts, bound, depths, scope, at, levels);
-    }
-    if loops(kind) {
-        return fit_loop(
+        fit_if(kinds, operands, starts, bound, depths, scope, at, levels)
+    } else if loops(kind) {
+        fit_loop(
             kinds, operands, starts, bound, depths, scope, kind, at, levels,
-        );
+        )
+    } else {
+        fit_plain(kinds, operands, starts, bound, depths, &scope, kind, at)
     }
-    fit_plain(kinds, operands, starts, bound, depths, &scope, kind, at)
 }
 
 // An if.
-#[cycle(fit_if_fit_line_fit_loop_fit_tree)]
+#[cycle(fit_trees)]
 fn fit_if(
     kinds: &[u8],
     operands: &[i64],
@@ -111,7 +103,7 @@ fn fit_if(
     scope: [bool; 256],
     at: usize,
     levels: u64,
-) -> Lined
+) -> Result<usize, Fault>
     requires { Ready kinds.now operands.now starts.now bound.old depths.old × (length scope ≡ 256)
         × (at < length kinds.now) }
     ensures { Lines
@@ -121,9 +113,9 @@ fn fit_if(
         result bound.new depths.new }
 {
     if !open_if(kinds, operands, bound, depths, &scope, at) {
-        return Lined::Bad(at);
+        return Err(Fault { line: at });
     }
-    match fit_tree(
+    let first = fit_tree(
         kinds,
         operands,
         starts,
@@ -133,32 +125,17 @@ fn fit_if(
         Wants::Any,
         at + 2,
         levels,
-    ) {
-        Fit::Fits(d, q) => {
-            match fit_tree(
-                kinds,
-                operands,
-                starts,
-                bound,
-                depths,
-                scope,
-                Wants::Exactly(d),
-                q,
-                levels,
-            ) {
-                Fit::Fits(e, r) => {
-                    bind(bound, depths, first_at(operands, at), e);
-                    Lined::Next(r)
-                }
-                Fit::Fault(r) => Lined::Bad(r),
-            }
-        }
-        Fit::Fault(q) => Lined::Bad(q),
-    }
+    )?;
+    let wants = Wants::Exactly(first.depth);
+    let second = fit_tree(
+        kinds, operands, starts, bound, depths, scope, wants, first.next, levels,
+    )?;
+    bind(bound, depths, first_at(operands, at), second.depth);
+    Ok(second.next)
 }
 
 // A loop.
-#[cycle(fit_if_fit_line_fit_loop_fit_tree)]
+#[cycle(fit_trees)]
 fn fit_loop(
     kinds: &[u8],
     operands: &[i64],
@@ -169,7 +146,7 @@ fn fit_loop(
     kind: u8,
     at: usize,
     levels: u64,
-) -> Lined
+) -> Result<usize, Fault>
     requires { Ready kinds.now operands.now starts.now bound.old depths.old × (length scope ≡ 256)
         × (at < length kinds.now) }
     ensures { Lines
@@ -179,30 +156,17 @@ fn fit_loop(
         result bound.new depths.new }
 {
     let mut s = scope;
-    match open_loop(kinds, operands, bound, depths, &mut s, kind, at) {
-        Judged::Has(first) => {
-            let below = at + 1 + loop_atoms(kind);
-            match fit_tree(
-                kinds,
-                operands,
-                starts,
-                bound,
-                depths,
-                s,
-                loop_wants(kind, first),
-                below,
-                levels,
-            ) {
-                Fit::Fits(d, q) => match loop_depth(kind, first, d) {
-                    Judged::Has(e) => {
-                        bind(bound, depths, first_at(operands, at), e);
-                        Lined::Next(q)
-                    }
-                    Judged::Broken => Lined::Bad(q),
-                },
-                Fit::Fault(q) => Lined::Bad(q),
-            }
-        }
-        Judged::Broken => Lined::Bad(at),
-    }
+    let Some(first) = open_loop(kinds, operands, bound, depths, &mut s, kind, at) else {
+        return Err(Fault { line: at });
+    };
+    let wants = loop_wants(kind, first);
+    let below = at + 1 + loop_atoms(kind);
+    let tree = fit_tree(
+        kinds, operands, starts, bound, depths, s, wants, below, levels,
+    )?;
+    let Some(depth) = loop_depth(kind, first, tree.depth) else {
+        return Err(Fault { line: tree.next });
+    };
+    bind(bound, depths, first_at(operands, at), depth);
+    Ok(tree.next)
 }

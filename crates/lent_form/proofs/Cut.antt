@@ -1,9 +1,21 @@
 -- The lines that are looked at, as parts of the two arrays.
+use Rattle.std.specs.Ordering.{int_eq}
+use Rattle.prelude.specs.Kit.{Bool, pos, negsuc, max, eqb}
 use Rattle.prelude.specs.Kit.{ℕ, suc, zero, min, arith, ◌≡◌, refl, ◌∙◌, ap, List, [], ◌∷◌, ltb, ℤ, length, take}
-use Rattle.prelude.specs.Kit.{length-take}
 use Rattle.semantics.specs.Code.{Row}
-use Rattle.semantics_lent.specs.Form.{paired, code_length, lent_rows, goes_on, arities_of, code_form, form}
-use Rattle.lent_form.specs.Told.{Lined}
+use Rattle.semantics.specs.Number.{is_zero}
+use Rattle.semantics_lent.specs.Form.{used, paired, code_length, lent_rows, goes_on, arities_of, code_form, form}
+
+-- `==` on words tells the same as the definition
+zero_operand : (z : ℤ) → int_eq z (pos 0) ≡ is_zero z
+zero_operand (pos zero) = refl
+zero_operand (pos (suc n)) = grind arith
+zero_operand (negsuc n) = refl
+
+pub all_lines : (ks : List ℕ) (os : List ℤ) →
+    max (used (λ k. eqb k 0) ks) (used (λ z. int_eq z (pos 0)) os) ≡ code_length ks os
+unfolding code_length
+all_lines ks os = ap (λ (f : ℤ → Bool). max (used (λ k. eqb k 0) ks) (used f os)) (λ i z. zero_operand z i)
 
 paired_take : (n : ℕ) (ks : List ℕ) (os : List ℤ) → paired (take n ks) (take n os) ≡ take n (paired ks os)
 unfolding paired
@@ -40,9 +52,3 @@ module _ (ks : List ℕ) (os : List ℤ) (all room lines : ℕ) (e : all ≡ cod
       (ltb room all) 0 ≡ form ks os
   unfolding form goes_on
   cut_form = rw (cut_rows, e, f)
-
-  pub cut_lined : Lined (take lines ks) (take lines os)
-  cut_lined = record {
-    even = simp length-take (omega arith);
-    few = simp length-take (omega arith);
-  }

@@ -1,17 +1,15 @@
 -- The loop over the functions.
 use Rattle.prelude.specs.Kit.{ℕ, ◌≤◌, ◌+◌, ◌<◌, ◌-◌, suc, zero, arith, true, false, Bool, false≢true, ◌||◌, ◌≡◌, refl}
-use Rattle.prelude.specs.Kit.{◌∙◌, sym, ap, none, Option, List, [], ◌∷◌, ◌++◌, append_assoc, append-nil, eqb, ltb, ℤ}
-use Rattle.prelude.specs.Kit.{length, get_or, set, length-set, length-append, get_or-set_other, get_or-set_same, eqb-true}
-use Rattle.prelude.specs.Kit.{eqb-false}
+use Rattle.prelude.specs.Kit.{◌∙◌, sym, ap, Option, List, [], ◌∷◌, ◌++◌, append_assoc, append-nil, eqb, ltb, ℤ}
+use Rattle.prelude.specs.Kit.{length, get_or, set, length-set, length-append, get_or-set_other, get_or-set_same}
+use Rattle.prelude.specs.Kit.{eqb-true, eqb-false}
 use Rattle.semantics.specs.Outcome.{Outcome, done, stop, onward, give}
 use Rattle.semantics.specs.Code.{Row}
 use Rattle.semantics_lent.specs.Form.{paired, arities_of, function_form, Lent, unless_ended, functions_form, code_form}
-use Rattle.lent_form.specs.Told.{forgot, said, function_passed}
+use Rattle.lent_form.specs.Told.{faulty, forgot, function_passed}
 use Rattle.lent_form.specs.Starts.{lent_size, start_of, Answers}
-use Rattle.lent_form.specs.declared.Read.{Read}
-use Rattle.lent_form.specs.declared.Read.TheVariants.{Next, Fault}
-use Rattle.lent_form.specs.declared.Formed.TheVariants.{Accepted, Refused}
-use Rattle.lent_form.proofs.Rows.{paired_length}
+use Rattle.std.specs.Prelude.{Ok, Err}
+use Rattle.lent_form.specs.declared.Fault.{Fault}
 use Rattle.lent_form.proofs.Starts.{function_grown}
 
 -- ---- a list of functions with one more
@@ -110,7 +108,7 @@ module _ (rows : List Row) (arities : List (Option ℕ)) (over : Bool) where
   }
 
   module _ (starts : List ℕ) (f p : ℕ) (c : Forming starts f p) where
-    pub too_many : f ≡ 32 → Answers (code_form rows arities over 0) (Refused p) starts
+    pub too_many : f ≡ 32 → Answers (code_form rows arities over 0) (faulty p) starts
     too_many e =
         let none : 32 - f ≡ 0 = omega arith in
         let stops : code_form rows arities over 0 ≡ stop 29 p = c.code ∙ rw none in
@@ -120,11 +118,11 @@ module _ (rows : List Row) (arities : List (Option ℕ)) (over : Bool) where
       fewer : 32 - f ≡ suc (32 - (f + 1))
       fewer = omega arith
 
-      pub stops_at : (q : ℕ) → function_form rows arities over p ≡ stop 29 q →
-          Answers (code_form rows arities over 0) (Refused q) (set starts f p)
+      pub stops_at : (r : Fault) → function_form rows arities over p ≡ stop 29 r.line →
+          Answers (code_form rows arities over 0) (Err r) (set starts f p)
       unfolding onward
-      stops_at q e =
-          let stops : code_form rows arities over 0 ≡ stop 29 q = c.code ∙ rw (fewer, e) in
+      stops_at r e =
+          let stops : code_form rows arities over 0 ≡ stop 29 r.line = c.code ∙ rw (fewer, e) in
           record { is = rw stops; started = rw stops tt }
 
       module _ (g : Lent) (q : ℕ) (e : function_form rows arities over p ≡ done g q) where
@@ -164,7 +162,7 @@ module _ (rows : List Row) (arities : List (Option ℕ)) (over : Bool) where
         }
 
         pub ends_here : (ltb q (length rows) || over) ≡ false →
-            Answers (code_form rows arities over 0) (Accepted q (f + 1)) (set starts f p)
+            Answers (code_form rows arities over 0) (Ok (record { lines = q; functions = f + 1 })) (set starts f p)
         ends_here d =
             let ended : code_form rows arities over 0 ≡ done ((c.before ++ (g ∷ [])) ++ []) q =
             with_more ∙ rw (goes_no_more (32 - (f + 1)) q d) in
@@ -188,20 +186,13 @@ stopped : {A : Type 0} (o : Outcome ℕ A) (q : ℕ) → stop 29 q ≡ forgot o 
 stopped (done a s) q e = absurd (let z : ◌≡◌ {A = ℕ} 0 1 = cc in let f : ⊥ = omega arith in f)
 stopped (stop n s) q e = let f : 29 ≡ n = cc in let g : q ≡ s = cc in rw (f, g)
 
-module _ (ks : List ℕ) (os : List ℤ) (over : Bool) (p : ℕ) (r : Read) (read : said r ≡ function_passed ks os over p)
-    (q : ℕ) where
-  pub function_found : r ≡ Next q →
+module _ (ks : List ℕ) (os : List ℤ) (over : Bool) (p : ℕ) where
+  pub function_found : (q : ℕ) → done tt q ≡ function_passed ks os over p →
       (g : Lent) × (function_form (paired ks os) (arities_of (paired ks os)) over p ≡ done g q)
   unfolding function_passed
-  function_found e = inverted (function_form (paired ks os) (arities_of (paired ks os)) over p) q (sym (ap said e)
-      ∙ read)
+  function_found q read = inverted (function_form (paired ks os) (arities_of (paired ks os)) over p) q read
 
-  pub function_faulty : r ≡ Fault q → function_form (paired ks os) (arities_of (paired ks os)) over p ≡ stop 29 q
+  pub function_faulty : (e : Fault) → stop 29 e.line ≡ function_passed ks os over p →
+      function_form (paired ks os) (arities_of (paired ks os)) over p ≡ stop 29 e.line
   unfolding function_passed
-  function_faulty e = stopped (function_form (paired ks os) (arities_of (paired ks os)) over p) q (sym (ap said e)
-      ∙ read)
-
--- the code's test whether there is more
-pub going : (ks : List ℕ) (os : List ℤ) → length ks ≡ length os → (over : Bool) (q : ℕ) (r : Bool) →
-    r ≡ (ltb q (length ks) || over) → (b : Bool) → r ≡ b → (ltb q (length (paired ks os)) || over) ≡ b
-going ks os even over q r e b f = ap (λ (n : ℕ). ltb q n || over) (paired_length ks os even) ∙ sym e ∙ f
+  function_faulty e read = stopped (function_form (paired ks os) (arities_of (paired ks os)) over p) e.line read

@@ -1,17 +1,16 @@
 -- Functions: their lines, parameters and trees.
-use Rattle.prelude.specs.Kit.{ℕ, ◌≤◌, ◌<◌, ◌-◌, suc, zero, arith, true, false, Bool, cond, ◌≡◌, refl, ◌∙◌, sym, ap}
+use Rattle.prelude.specs.Kit.{ℕ, ◌≤◌, ◌+◌, ◌<◌, ◌-◌, suc, zero, arith, true, false, Bool, cond, ◌≡◌, refl, ◌∙◌, ap}
 use Rattle.prelude.specs.Kit.{some, none, Option, List, eqb, ltb, ℤ, length, get_or}
 use Rattle.semantics.specs.Outcome.{Outcome, done, stop, onward, give, require, times}
 use Rattle.semantics.specs.Code.{Atom, Row, row}
 use Rattle.semantics_lent.specs.Form.{Parts, parts_of, in_range, row_here, atoms, line_of, paired, arities_of}
 use Rattle.semantics_lent.specs.Form.{tree_form, parameter_form, function_form}
-use Rattle.lent_form.specs.Told.{atoms_read, head_parts, head_told, then_fits, Passing, forgot, said, and_then}
-use Rattle.lent_form.specs.Told.{repeated, by_head, tree_passed, parameter_passed, function_passed, Walked}
-use Rattle.lent_form.specs.declared.Read.{Read}
-use Rattle.lent_form.specs.declared.Read.TheVariants.{Next, Fault}
+use Rattle.lent_form.specs.Told.{faulty, atoms_read, head_parts, head_told, then_fits, Passing, forgot, said, and_then}
+use Rattle.lent_form.specs.Told.{repeated, by_head, tree_passed, parameter_passed, function_passed}
+use Rattle.std.specs.Prelude.{Result, Ok, Err}
+use Rattle.lent_form.specs.declared.Fault.{Fault}
 use Rattle.lent_form.specs.declared.Wants.TheVariants.{Exactly}
 use Rattle.lent_form.specs.declared.Head.{Head}
-use Rattle.lent_form.specs.declared.Head.TheVariants.{Fits, Unfit}
 use Rattle.lent_form.proofs.Trees.{forgot_onward, forgot_given, atoms_agree}
 
 -- ---- the line of a function or of a parameter
@@ -25,9 +24,9 @@ module _ (rows : List Row) (arities : List (Option ℕ)) (over : Bool) (k p : �
   after_atoms q (done us s) = h q s
   after_atoms q (stop n s) = refl
 
-  head_read : (n : ℕ) (r : Read) → and_then (said r) (g n) ≡ by_head (then_fits n r) g
-  head_read n (Next q) = refl
-  head_read n (Fault q) = refl
+  head_read : (n : ℕ) (r : Result ℕ Fault) → and_then (said r) (g n) ≡ by_head (then_fits n r) g
+  head_read n (Ok q) = refl
+  head_read n (Err e) = refl
 
   pub head_agrees : forgot (onward f (line_of rows arities over k p)) ≡ by_head (head_told rows over k p) g
   unfolding line_of onward row_here require head_told
@@ -51,7 +50,7 @@ module _ (rows : List Row) (arities : List (Option ℕ)) (over : Bool) (k p : �
           forgot (onward f (onward
           (λ (u : Unit {0}) (s : ℕ). onward with_parts (in_range rows arities over (parts_of k r.operand) s))
           (require b 29 p)))
-          ≡ by_head (cond b (head_parts rows over p (parts_of k r.operand)) (Unfit p)) g
+          ≡ by_head (cond b (head_parts rows over p (parts_of k r.operand)) (faulty p)) g
       by_kind true = by_parts (parts_of k r.operand)
       by_kind false = refl
 
@@ -59,8 +58,8 @@ module _ (rows : List Row) (arities : List (Option ℕ)) (over : Bool) (k p : �
           forgot (onward f (onward (λ (r : Row) (s : ℕ).
           onward (λ (u : Unit {0}) (s : ℕ). onward with_parts (in_range rows arities over (parts_of k r.operand) s))
           (require (eqb r.kind k) 29 s)) (cond b (done r p) (stop 29 p))))
-          ≡ by_head (cond b (cond (eqb r.kind k) (head_parts rows over p (parts_of k r.operand)) (Unfit p))
-          (Unfit p)) g
+          ≡ by_head (cond b (cond (eqb r.kind k) (head_parts rows over p (parts_of k r.operand)) (faulty p))
+          (faulty p)) g
       by_place true = by_kind (eqb r.kind k)
       by_place false = refl
 
@@ -75,70 +74,52 @@ times_repeated (suc n) m p =
 
 -- ---- loops over tests
 
-less_one : (c : ℕ) → 0 < c → c ≡ suc (c - 1)
-less_one zero h = absurd (omega arith)
-less_one (suc c) h = omega arith
-
 repeated_step : (f : ℕ → Passing) (c p : ℕ) → 0 < c → repeated c f p ≡ and_then (f p) (repeated (c - 1) f)
 unfolding repeated
-repeated_step f c p h = ap (λ (n : ℕ). repeated n f p) (less_one c h)
+repeated_step f zero p h = absurd (omega arith)
+repeated_step f (suc c) p h = ap (λ (n : ℕ). and_then (f p) (repeated n f)) (omega arith)
 
-module _ (f : ℕ → Passing) (c₀ c p₀ p : ℕ) (inv : repeated c₀ f p₀ ≡ repeated c f p) where
-  pub repeated_goes : 0 < c → (q : ℕ) → f p ≡ done tt q → repeated c₀ f p₀ ≡ repeated (c - 1) f q
-  repeated_goes h q e = inv ∙ repeated_step f c p h ∙ rw e
+-- where i of c tests have been passed
+module _ (f : ℕ → Passing) (c p₀ i p : ℕ) (inv : repeated c f p₀ ≡ repeated (c - i) f p) where
+  pub repeated_goes : i < c → (q : ℕ) → f p ≡ done tt q → repeated c f p₀ ≡ repeated (c - (i + 1)) f q
+  repeated_goes h q e =
+      let n : c - i - 1 ≡ c - (i + 1) = omega arith in
+      inv ∙ repeated_step f (c - i) p (omega arith) ∙ rw (e, n)
 
-  pub repeated_stops : 0 < c → (q : ℕ) → f p ≡ stop 29 q → stop 29 q ≡ repeated c₀ f p₀
-  repeated_stops h q e = sym (inv ∙ repeated_step f c p h ∙ rw e)
+  pub repeated_stops : i < c → (q : ℕ) → f p ≡ stop 29 q → repeated c f p₀ ≡ stop 29 q
+  repeated_stops h q e = inv ∙ repeated_step f (c - i) p (omega arith) ∙ rw e
 
-  pub repeated_none : c ≡ 0 → done tt p ≡ repeated c₀ f p₀
+  pub repeated_ends : c ≤ i → repeated c f p₀ ≡ done tt p
   unfolding repeated
-  repeated_none e = sym (inv ∙ rw e)
+  repeated_ends h = let n : c - i ≡ 0 = omega arith in inv ∙ rw n
 
 -- ---- parameters and functions
 
-module _ (ks : List ℕ) (os : List ℤ) (over : Bool) (p : ℕ) (l : Head) where
-  module _ (told : l ≡ head_told (paired ks os) over 1 p) where
-    parameter_by : parameter_passed ks os over p ≡ by_head l (λ n q. done tt q)
-    unfolding parameter_passed parameter_form
-    parameter_by =
-        head_agrees (paired ks os) (arities_of (paired ks os)) over 1 p _ (λ n q. done tt q) (λ q s. refl) ∙ rw (← told)
+module _ (ks : List ℕ) (os : List ℤ) (over : Bool) (p : ℕ) (l : Result Head Fault) where
+  pub parameter_by : l ≡ head_told (paired ks os) over 1 p →
+      parameter_passed ks os over p ≡ by_head l (λ n q. done tt q)
+  unfolding parameter_passed parameter_form
+  parameter_by told =
+      head_agrees (paired ks os) (arities_of (paired ks os)) over 1 p _ (λ n q. done tt q) (λ q s. refl) ∙ rw (← told)
 
-    pub parameter_fits : (n q : ℕ) → l ≡ Fits n q → parameter_passed ks os over p ≡ done tt q
-    parameter_fits n q e = parameter_by ∙ rw e
+  pub function_by : l ≡ head_told (paired ks os) over 0 p →
+      function_passed ks os over p
+      ≡ by_head l (λ n q. and_then (repeated n (parameter_passed ks os over) q) (tree_passed ks os over 4096 64))
+  unfolding function_passed function_form parameter_passed tree_passed
+  function_by told =
+      head_agrees rows arities over 0 p _
+      (λ n q. and_then (repeated n (λ s. forgot (parameter_form rows arities over s)) q)
+      (λ s. forgot (tree_form rows arities over 4096 64 s)))
+      (λ q s.
+      forgot_onward (times q.first (parameter_form rows arities over) s) _
+      (λ s. forgot (tree_form rows arities over 4096 64 s))
+      (λ xs s. forgot_given (tree_form rows arities over 4096 64 s) _)
+      ∙ ap (λ (o : Passing). and_then o (λ s. forgot (tree_form rows arities over 4096 64 s)))
+      (times_repeated q.first (parameter_form rows arities over) s))
+      ∙ rw (← told)
+    where
+      rows : List Row
+      rows = paired ks os
 
-    pub parameter_fails : (q : ℕ) → l ≡ Unfit q → parameter_passed ks os over p ≡ stop 29 q
-    parameter_fails q e = parameter_by ∙ rw e
-
-  module _ (told : l ≡ head_told (paired ks os) over 0 p) where
-    function_by : function_passed ks os over p
-        ≡ by_head l (λ n q. and_then (repeated n (parameter_passed ks os over) q) (tree_passed ks os over 4096 64))
-    unfolding function_passed function_form parameter_passed tree_passed
-    function_by =
-        head_agrees rows arities over 0 p _
-        (λ n q. and_then (repeated n (λ s. forgot (parameter_form rows arities over s)) q)
-        (λ s. forgot (tree_form rows arities over 4096 64 s)))
-        (λ q s.
-        forgot_onward (times q.first (parameter_form rows arities over) s) _
-        (λ s. forgot (tree_form rows arities over 4096 64 s))
-        (λ xs s. forgot_given (tree_form rows arities over 4096 64 s) _)
-        ∙ ap (λ (o : Passing). and_then o (λ s. forgot (tree_form rows arities over 4096 64 s)))
-        (times_repeated q.first (parameter_form rows arities over) s))
-        ∙ rw (← told)
-      where
-        rows : List Row
-        rows = paired ks os
-
-        arities : List (Option ℕ)
-        arities = arities_of (paired ks os)
-
-    pub function_fails : (q : ℕ) → l ≡ Unfit q → stop 29 q ≡ function_passed ks os over p
-    function_fails q e = sym (function_by ∙ rw e)
-
-    module _ (n q : ℕ) (e : l ≡ Fits n q) (r : Read) (read : said r ≡ repeated n (parameter_passed ks os over) q) where
-      pub parameters_fail : (s : ℕ) → r ≡ Fault s → stop 29 s ≡ function_passed ks os over p
-      parameters_fail s d = sym (function_by ∙ rw (e, ← read, d))
-
-      pub function_read : (s : ℕ) → r ≡ Next s → (v : Read) → length ks ≤ 4096 →
-          Walked (length ks) (λ m. tree_passed ks os over m 64) s v → said v ≡ function_passed ks os over p
-      function_read s d v few walked =
-          sym (function_by ∙ rw (e, ← read, d) (sym (walked.is 4096 (omega arith))))
+      arities : List (Option ℕ)
+      arities = arities_of (paired ks os)

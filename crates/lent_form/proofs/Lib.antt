@@ -4,8 +4,8 @@ pub mod Operands
 pub mod Rows
 pub mod Lines
 pub mod Trees
-pub mod Walk
 pub mod Functions
+pub mod Walk
 pub mod Whole
 pub mod Starts
 pub mod Forming

@@ -1,22 +1,9 @@
 -- Operands: words as numbers, and their parts within limits.
-use Rattle.prelude.specs.Kit.{ℕ, ◌<◌, ◌%◌, ◌/◌, arith, true, false, Bool, ◌&&◌, false≢true, ◌≡◌, refl, sym, none, ltb}
-use Rattle.prelude.specs.Kit.{leb, T, ℤ, pos, negsuc, nat_abs, lt_z, mag, non_neg, get_or, ltb-true, lt-leb, w64, Fits}
+use Rattle.prelude.specs.Kit.{ℕ, ◌<◌, ◌%◌, ◌/◌, arith, true, false, Bool, ◌&&◌, ◌≡◌, refl, none, ltb}
+use Rattle.prelude.specs.Kit.{leb, ℤ, pos, negsuc, get_or, ltb-true, lt-leb}
 use Rattle.semantics_lent.specs.Form.{first_limits, second_limits, third_limits, Parts, some_parts, parts_of}
 use Rattle.lent_form.specs.Told.{limits_of, natural, within}
 use Rattle.lent_form.proofs.Tables.{entry_passes}
-
-pub negative : (z : ℤ) → lt_z z (pos 0) ≡ true → 9223372036854775808 ≡ natural z
-negative (pos n) e = absurd (let h : n < 0 = ltb-true n 0 e in omega arith)
-negative (negsuc n) e = refl
-
-pub not_negative : (z : ℤ) → lt_z z (pos 0) ≡ false → nat_abs z ≡ natural z
-not_negative (pos n) e = refl
-not_negative (negsuc n) e = absurd (false≢true (sym e))
-
-pub as_number : (z : ℤ) → mag z < 9223372036854775808 → lt_z z (pos 0) ≡ false →
-    T (non_neg z) × Fits w64 (nat_abs z)
-as_number (pos n) h e = (tt, record { fits = omega arith })
-as_number (negsuc n) h e = absurd (false≢true (sym e))
 
 -- ---- limits
 

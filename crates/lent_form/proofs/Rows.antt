@@ -5,8 +5,7 @@ use Rattle.prelude.specs.Kit.{length-drop, drop-cons, ne_eqb, leb-true, le-leb}
 use Rattle.semantics.specs.Code.{Atom, number, name, Row, row}
 use Rattle.semantics_lent.specs.Form.{paired, atoms_before, and_atom, Seen, as_atom, out_of_range, no_atom, seen_as}
 use Rattle.lent_form.specs.Told.{limits_of, natural, within, run_told, run_from}
-use Rattle.lent_form.specs.declared.Run.{Run}
-use Rattle.lent_form.specs.declared.Run.TheVariants.{To, Bad}
+use Rattle.std.specs.Prelude.{Option as Optional, Some, None}
 use Rattle.lent_form.proofs.Operands.{parts_natural}
 
 pub paired_length : (ks : List ℕ) (os : List ℤ) → length ks ≡ length os → length (paired ks os) ≡ length ks
@@ -62,14 +61,14 @@ module _ (k : ℕ) (z : ℤ) where
 -- ---- a run of atoms
 
 one_more : (p : ℕ) (a : Atom) (o : Option (List Atom)) → run_told p (and_atom a o) ≡ run_told (p + 1) o
-one_more p a (some us) = ap To (omega arith)
+one_more p a (some us) = ap Some (omega arith)
 one_more p a none = refl
 
 -- by its first row
-abbrev seen_run : ℕ → Seen → List Row → Run
+abbrev seen_run : ℕ → Seen → List Row → Optional ℕ
 seen_run p (as_atom a) rs = run_told (p + 1) (atoms_before rs)
-seen_run p out_of_range rs = Bad
-seen_run p no_atom rs = To p
+seen_run p out_of_range rs = None
+seen_run p no_atom rs = Some p
 
 first_seen : (p : ℕ) (r : Row) (rs : List Row) → run_told p (atoms_before (r ∷ rs)) ≡ seen_run p (seen_as r) rs
 unfolding atoms_before
@@ -80,16 +79,16 @@ first_seen p r rs = go (seen_as r)
         ≡ seen_run p s rs
     go (as_atom a) = one_more p a (atoms_before rs)
     go out_of_range = refl
-    go no_atom = ap To (omega arith)
+    go no_atom = ap Some (omega arith)
 
 module _ (ks : List ℕ) (os : List ℤ) (even : length ks ≡ length os) (p : ℕ) where
   -- past the last row there is no atom
-  pub run_past : length ks ≤ p → To p ≡ run_from (paired ks os) p
+  pub run_past : length ks ≤ p → Some p ≡ run_from (paired ks os) p
   unfolding run_from atoms_before
   run_past h = go (drop p (paired ks os)) (length-drop p (paired ks os))
     where
-      go : (rs : List Row) → length rs ≡ length (paired ks os) - p → To p ≡ run_told p (atoms_before rs)
-      go [] e = ap To (omega arith)
+      go : (rs : List Row) → length rs ≡ length (paired ks os) - p → Some p ≡ run_told p (atoms_before rs)
+      go [] e = ap Some (omega arith)
       go (r ∷ rs) e = absurd (omega (arith, e, paired_length ks os even))
 
   module _ (h : p < length ks) where
@@ -111,8 +110,8 @@ module _ (ks : List ℕ) (os : List ℤ) (even : length ks ≡ length os) (p : �
     unfolding run_from
     run_name e f = by_row _ (seen_name (get_or ks p 0) (get_or os p (pos 0)) e f)
 
-    pub run_bad : get_or ks p 0 ≡ 3 → 255 < natural (get_or os p (pos 0)) → Bad ≡ run_from (paired ks os) p
+    pub run_bad : get_or ks p 0 ≡ 3 → 255 < natural (get_or os p (pos 0)) → None ≡ run_from (paired ks os) p
     run_bad e f = sym (by_row _ (seen_bad (get_or ks p 0) (get_or os p (pos 0)) e f))
 
-    pub run_other : (get_or ks p 0 ≡ 2 → ⊥) → (get_or ks p 0 ≡ 3 → ⊥) → To p ≡ run_from (paired ks os) p
+    pub run_other : (get_or ks p 0 ≡ 2 → ⊥) → (get_or ks p 0 ≡ 3 → ⊥) → Some p ≡ run_from (paired ks os) p
     run_other e f = sym (by_row _ (seen_other (get_or ks p 0) (get_or os p (pos 0)) e f))

@@ -7,12 +7,10 @@ use Rattle.semantics.specs.Code.{Atom, Row, row, Tree}
 use Rattle.semantics_lent.specs.Form.{Parts, parts_of, atoms_before, atoms_found, atoms, row_here, Form, leaf_line}
 use Rattle.semantics_lent.specs.Form.{if_line, loop_line, retain_line, release_line, end_line, no_line, form_of, formed}
 use Rattle.semantics_lent.specs.Form.{in_range, tree_form}
-use Rattle.lent_form.specs.Told.{run_told, run_from, counted, atoms_read, wants_of, then_trees, form_told}
+use Rattle.lent_form.specs.Told.{run_told, run_from, faulty, counted, atoms_read, wants_of, then_trees, form_told}
 use Rattle.lent_form.specs.Told.{parts_told, line_told, Passing, forgot, said, and_then, repeated, stepped}
-use Rattle.lent_form.specs.declared.Run.{Run}
-use Rattle.lent_form.specs.declared.Run.TheVariants.{To, Bad}
-use Rattle.lent_form.specs.declared.Read.{Read}
-use Rattle.lent_form.specs.declared.Read.TheVariants.{Next, Fault}
+use Rattle.std.specs.Prelude.{Option as Optional, Some, None, Result, Ok, Err}
+use Rattle.lent_form.specs.declared.Fault.{Fault}
 use Rattle.lent_form.specs.declared.Wants.TheVariants.{Exactly, Wrong}
 
 -- ---- tests one after the other, without what they found
@@ -64,7 +62,7 @@ module _ (rows : List Row) (arities : List (Option ℕ)) (over : Bool) where
           cond (ltb (length us) k && (over && eqb (p + 1 + length us) (length rows))) (length rows) p
 
       go : (b : Bool) → forgot (cond b (done us (p + 1 + length us)) (stop 29 x))
-          ≡ said (cond b (Next (p + 1 + length us)) (Fault x))
+          ≡ said (cond b (Ok (p + 1 + length us)) (faulty x))
       go true = refl
       go false = refl
 
@@ -75,13 +73,13 @@ module _ (rows : List Row) (arities : List (Option ℕ)) (over : Bool) where
       found_read n (atoms_before (drop (suc p) rows)) p
       ∙ rw (add-one p)
 
-  wrong_read : (p : ℕ) → atoms_read rows over p Wrong ≡ Fault p
+  wrong_read : (p : ℕ) → atoms_read rows over p Wrong ≡ faulty p
   unfolding atoms_read
   wrong_read p = go (run_from rows (p + 1))
     where
-      go : (r : Run) → counted (length rows) over p r Wrong ≡ Fault p
-      go (To q) = refl
-      go Bad = refl
+      go : (r : Optional ℕ) → counted (length rows) over p r Wrong ≡ faulty p
+      go (Some q) = refl
+      go None = refl
 
   -- ---- a line
 
@@ -93,37 +91,37 @@ module _ (rows : List Row) (arities : List (Option ℕ)) (over : Bool) where
     N = λ s. forgot (next s)
 
     -- behind its atoms
-    with_trees : (r : Read) (t : ℕ) → eqb t 3 ≡ false →
-        and_then (said r) (λ s. and_then (repeated t B s) N) ≡ stepped (then_trees t r) B N
-    with_trees (Next q) t e = rw e
-    with_trees (Fault q) t e = refl
+    with_trees : (r : Result ℕ Fault) (t : ℕ) →
+        and_then (said r) (λ s. and_then (repeated t B s) N) ≡ stepped (then_trees (Some t) r) B N
+    with_trees (Ok q) t = refl
+    with_trees (Err e) t = refl
 
-    then_atoms : (n : Option ℕ) (t : ℕ) → eqb t 3 ≡ false → (f : List Atom → ℕ → Outcome ℕ Tree) →
+    then_atoms : (n : Option ℕ) (t : ℕ) (f : List Atom → ℕ → Outcome ℕ Tree) →
         ((us : List Atom) (s : ℕ) → forgot (f us s) ≡ and_then (repeated t B s) N) →
         forgot (onward f (atoms rows arities over n p)) ≡ stepped
-        (then_trees t (atoms_read rows over p (wants_of n))) B N
-    then_atoms n t e f h =
+        (then_trees (Some t) (atoms_read rows over p (wants_of n))) B N
+    then_atoms n t f h =
         forgot_onward (atoms rows arities over n p) f (λ s. and_then (repeated t B s) N) h
         ∙ ap (λ (o : Passing). and_then o (λ s. and_then (repeated t B s) N)) (atoms_agree n p)
-        ∙ with_trees (atoms_read rows over p (wants_of n)) t e
+        ∙ with_trees (atoms_read rows over p (wants_of n)) t
 
-    at_end : (r : Read) → said r ≡ stepped (then_trees 3 r) B N
-    at_end (Next q) = refl
-    at_end (Fault q) = refl
+    at_end : (r : Result ℕ Fault) → said r ≡ stepped (then_trees None r) B N
+    at_end (Ok q) = refl
+    at_end (Err e) = refl
 
     pub formed_step : (x : ℕ) (F : Form) →
         forgot (formed rows arities over below next x F p) ≡ stepped (form_told rows over p F) B N
     unfolding repeated
-    formed_step x (leaf_line l n) = then_atoms n 0 refl _ (λ us s. forgot_given (next s) _)
-    formed_step x if_line = then_atoms (some 1) 2 refl _ (λ us s.
+    formed_step x (leaf_line l n) = then_atoms n 0 _ (λ us s. forgot_given (next s) _)
+    formed_step x if_line = then_atoms (some 1) 2 _ (λ us s.
         forgot_onward (below s) _ (λ q. and_then (B q) N) (λ a q.
         forgot_onward (below q) _ N (λ b r. forgot_given (next r) _))
         ∙ sym (then_assoc (B s) _ N ∙ ap (and_then (B s)) (λ i q. then_assoc (B q) (λ r. done tt r) N i)))
-    formed_step x (loop_line k ps n) = then_atoms (some n) 1 refl _ (λ us s.
+    formed_step x (loop_line k ps n) = then_atoms (some n) 1 _ (λ us s.
         forgot_onward (below s) _ N (λ a q. forgot_given (next q) _)
         ∙ sym (then_assoc (B s) (λ r. done tt r) N))
-    formed_step x retain_line = then_atoms (some 0) 0 refl _ (λ us s. forgot_given (next s) _)
-    formed_step x release_line = then_atoms (some 0) 0 refl _ (λ us s. forgot_given (next s) _)
+    formed_step x retain_line = then_atoms (some 0) 0 _ (λ us s. forgot_given (next s) _)
+    formed_step x release_line = then_atoms (some 0) 0 _ (λ us s. forgot_given (next s) _)
     formed_step x end_line =
         forgot_given (atoms rows arities over (some 1) p) _ ∙ atoms_agree (some 1) p
         ∙ at_end (atoms_read rows over p (Exactly 1))

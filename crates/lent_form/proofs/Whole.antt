@@ -1,17 +1,16 @@
 -- The lines that are looked at, and the numbers of parameters of their functions.
-use Rattle.prelude.specs.Kit.{ℕ, ◌≤◌, ◌+◌, ◌<◌, ◌-◌, suc, zero, ◌%◌, arith, add-one, true, false, Bool, cond, ◌&&◌}
-use Rattle.prelude.specs.Kit.{false≢true, ◌≡◌, refl, ◌∙◌, sym, ap, none, Option, List, [], ◌∷◌, ◌++◌, append_assoc, eqb}
-use Rattle.prelude.specs.Kit.{ltb, leb, ℤ, pos, negsuc, mag, length, get_or, set, length-set, replicate, take, drop}
+use Rattle.prelude.specs.Kit.{ℕ, ◌≤◌, ◌+◌, ◌<◌, ◌-◌, suc, arith, add-one, true, false, Bool, cond}
+use Rattle.prelude.specs.Kit.{◌≡◌, refl, ◌∙◌, sym, ap, none, Option, List, [], ◌∷◌, ◌++◌, append_assoc, eqb}
+use Rattle.prelude.specs.Kit.{ltb, ℤ, pos, length, get_or, set, length-set, replicate, get_or-replicate, take, drop}
 use Rattle.prelude.specs.Kit.{length-append, length-take, length-drop, get_or-append, get_or-set_other, get_or-set_same}
 use Rattle.prelude.specs.Kit.{drop-cons, get_or-append-add, take-suc, take-length, ne_eqb, lt-ltb, eq-eqb, le-ltb}
-use Rattle.prelude.specs.Kit.{eqb-true, ltb-true, leb-true, ltb-false, eqb-false, w64, of_z}
-use Rattle.semantics.specs.Number.{is_zero}
+use Rattle.prelude.specs.Kit.{eqb-true, ltb-true, ltb-false, eqb-false}
 use Rattle.semantics.specs.Basics.{with_if}
 use Rattle.semantics.specs.Code.{Row, row}
 use Rattle.semantics_lent.specs.Form.{used, and_before, paired, parts_of, arity_of, arities_of}
-use Rattle.lent_form.specs.Told.{limits_of, natural, within, wants_byte, wants_of, arity_in, call_wants, Known}
-use Rattle.lent_form.specs.declared.Wants.TheVariants.{Any}
-use Rattle.lent_form.proofs.Operands.{parts_natural}
+use Rattle.lent_form.specs.Told.{wants_of, arity_in, call_wants, Known}
+use Rattle.lent_form.specs.declared.Wants.{Wants}
+use Rattle.lent_form.specs.declared.Wants.TheVariants.{Wrong}
 use Rattle.lent_form.proofs.Rows.{paired_length, paired_at}
 
 -- ---- closing zeros
@@ -39,81 +38,49 @@ module _ {A : Type 0} (zeroed : A → Bool) where
   unfolding used
   used_none l n e = rw e
 
-  -- the first n places
-  module _ (d : A) (l : List A) (n : ℕ) (h : 0 < n) (m : n ≤ length l) where
-    one_less : take n l ≡ take (n - 1) l ++ (get_or l (n - 1) d ∷ [])
+  -- the first n places, the last of which has a
+  module _ (l : List A) (n : ℕ) (h : 0 < n) (m : n ≤ length l) (a : A) (last : a ≡ get_or l (n - 1) a) where
+    one_less : take n l ≡ take (n - 1) l ++ (a ∷ [])
     one_less = let e : n ≡ suc (n - 1) = omega arith in
-        ap (λ (k : ℕ). take k l) e ∙ take-suc l (n - 1) d (omega arith)
+        ap (λ (k : ℕ). take k l) e ∙ take-suc l (n - 1) a (omega arith)
+        ∙ ap (λ (b : A). take (n - 1) l ++ (b ∷ [])) (sym last)
 
-    pub used_zero : zeroed (get_or l (n - 1) d) ≡ true → used zeroed (take n l) ≡ used zeroed (take (n - 1) l)
-    used_zero e = ap (used zeroed) one_less ∙ used_last (take (n - 1) l) (get_or l (n - 1) d) ∙ rw e
+    pub used_zero : zeroed a ≡ true → used zeroed (take n l) ≡ used zeroed (take (n - 1) l)
+    used_zero e = ap (used zeroed) one_less ∙ used_last (take (n - 1) l) a ∙ rw e
 
-    pub used_here : zeroed (get_or l (n - 1) d) ≡ false → used zeroed (take n l) ≡ n
+    pub used_here : zeroed a ≡ false → used zeroed (take n l) ≡ n
     used_here e =
-        ap (used zeroed) one_less ∙ used_last (take (n - 1) l) (get_or l (n - 1) d)
+        ap (used zeroed) one_less ∙ used_last (take (n - 1) l) a
         ∙ rw e (simp length-take (omega arith))
 
--- a word is zero just where its bits are
-pub zero_word : (z : ℤ) → mag z < 9223372036854775808 → of_z w64 z ≡ 0 → is_zero z ≡ true
-zero_word (pos zero) h e = refl
-zero_word (pos (suc n)) h e = absurd (omega (arith, e))
-zero_word (negsuc n) h e = absurd (omega (arith, e))
-
-pub other_word : (z : ℤ) → (of_z w64 z ≡ 0 → ⊥) → is_zero z ≡ false
-other_word (pos zero) e = absurd (e refl)
-other_word (pos (suc n)) e = refl
-other_word (negsuc n) e = refl
-
--- ---- numbers of parameters
-
-pub arity_fits : (z : ℤ) (n : ℕ) → n ≡ natural z → within n (limits_of 0) ≡ true →
-    wants_byte (n % 256) ≡ wants_of (arity_of (parts_of 0 z))
-unfolding limits_of
-arity_fits z n e f =
-    let small : n % 256 ≤ 8 = leb-true (n % 256) 8 (first (leb (n % 256) 8) _ f) in
-    rw (parts_natural 0 z, ← e, f, ne_eqb (n % 256) 254 (λ g. omega arith), ne_eqb (n % 256) 255 (λ g. omega arith))
-  where
-    first : (a b : Bool) → (a && b) ≡ true → a ≡ true
-    first true b h = refl
-    first false b h = absurd (false≢true h)
-
-pub arity_unfit : (z : ℤ) (n : ℕ) → n ≡ natural z → within n (limits_of 0) ≡ false →
-    Any ≡ wants_of (arity_of (parts_of 0 z))
-arity_unfit z n e f = rw (parts_natural 0 z, ← e, f)
+-- ---- what calls of the functions want
 
 nothing : length (arities_of []) ≡ 0
 unfolding arities_of
 nothing = refl
 
--- the rows before line p have been looked through: the table has the numbers of their functions
-pub record Counting (rows : List Row) (table : List ℕ) (f p : ℕ) : Type 0 where
+-- the rows before line p have been looked through: the table has what calls of their functions want
+pub record Counting (rows : List Row) (table : List Wants) (f p : ℕ) : Type 0 where
   pub before : List (Option ℕ)
   pub whole : arities_of rows ≡ before ++ arities_of (drop p rows)
   pub many : length before ≡ f
   pub most : f ≤ 32
-  pub known : (i : ℕ) → i < f → wants_byte (get_or table i 0) ≡ wants_of (get_or before i none)
-  pub blank : (i : ℕ) → f ≤ i → i < 32 → get_or table i 0 ≡ 255
+  pub known : (i : ℕ) → i < f → get_or table i Wrong ≡ wants_of (get_or before i none)
+  pub blank : (i : ℕ) → f ≤ i → i < 32 → get_or table i Wrong ≡ Wrong
   pub long : length table ≡ 32
 
-pub blank_table : (n i : ℕ) → i < n → ◌≡◌ {A = ℕ} (get_or (replicate n 255) i 0) 255
-blank_table zero i h = absurd (omega arith)
-blank_table (suc n) zero h = refl
-blank_table (suc n) (suc i) h = blank_table n i (omega arith)
-
-pub counting_starts : (rows : List Row) (table : List ℕ) → length table ≡ 32 →
-    ((i : ℕ) → i < 32 → get_or table i 0 ≡ 255) →
-    Counting rows table 0 0
-counting_starts rows table e b = record {
+pub counting_starts : (rows : List Row) → Counting rows (replicate 32 Wrong) 0 0
+counting_starts rows = record {
   before = [];
   whole = refl;
   many = refl;
   most = omega arith;
   known = λ i h. absurd (omega arith);
-  blank = λ i h g. b i g;
-  long = e;
+  blank = λ i h g. get_or-replicate 32 i Wrong Wrong g;
+  long = refl;
 }
 
-module _ (ks : List ℕ) (os : List ℤ) (even : length ks ≡ length os) (table : List ℕ) (f p : ℕ)
+module _ (ks : List ℕ) (os : List ℤ) (even : length ks ≡ length os) (table : List Wants) (f p : ℕ)
     (c : Counting (paired ks os) table f p) where
   arities_here : p < length ks →
       arities_of (drop p (paired ks os))
@@ -135,8 +102,8 @@ module _ (ks : List ℕ) (os : List ℤ) (even : length ks ≡ length os) (table
     long = c.long;
   }
 
-  pub count_function : p < length ks → get_or ks p 0 ≡ 0 → (f ≡ 32 → ⊥) → (b : ℕ) →
-      wants_byte b ≡ wants_of (arity_of (parts_of 0 (get_or os p (pos 0)))) →
+  pub count_function : p < length ks → get_or ks p 0 ≡ 0 → (f ≡ 32 → ⊥) → (b : Wants) →
+      b ≡ wants_of (arity_of (parts_of 0 (get_or os p (pos 0)))) →
       Counting (paired ks os) (set table f b) (f + 1) (p + 1)
   count_function h e g b w = record {
     before = c.before ++ (o ∷ []);
@@ -146,7 +113,7 @@ module _ (ks : List ℕ) (os : List ℤ) (even : length ks ≡ length os) (table
     many = simp length-append (omega (arith, c.many));
     most = omega (arith, c.most);
     known = λ i l. known_at i l (eqb i f) refl;
-    blank = λ i l k. get_or-set_other table f i b 0 (λ d. omega arith) ∙ c.blank i (omega arith) k;
+    blank = λ i l k. get_or-set_other table f i b Wrong (λ d. omega arith) ∙ c.blank i (omega arith) k;
     long = simp length-set c.long;
   }
     where
@@ -154,18 +121,18 @@ module _ (ks : List ℕ) (os : List ℤ) (even : length ks ≡ length os) (table
       o = arity_of (parts_of 0 (get_or os p (pos 0)))
 
       known_at : (i : ℕ) → i < f + 1 → (t : Bool) → eqb i f ≡ t →
-          wants_byte (get_or (set table f b) i 0) ≡ wants_of (get_or (c.before ++ (o ∷ [])) i none)
+          get_or (set table f b) i Wrong ≡ wants_of (get_or (c.before ++ (o ∷ [])) i none)
       known_at i l true d =
           let e : i ≡ f = eqb-true i f d in
           let k : i ≡ length c.before + 0 = omega (arith, c.many) in
-          ap wants_byte (ap (λ (j : ℕ). get_or (set table f b) j 0) e
-          ∙ get_or-set_same table f b 0 (omega (arith, c.long, c.most)))
+          ap (λ (j : ℕ). get_or (set table f b) j Wrong) e
+          ∙ get_or-set_same table f b Wrong (omega (arith, c.long, c.most))
           ∙ w
           ∙ ap wants_of (sym (ap (λ (j : ℕ). get_or (c.before ++ (o ∷ [])) j none) k
           ∙ get_or-append-add c.before (o ∷ []) 0 none))
       known_at i l false d =
           let n : i ≡ f → ⊥ = eqb-false i f d in
-          ap wants_byte (get_or-set_other table f i b 0 n)
+          get_or-set_other table f i b Wrong n
           ∙ c.known i (omega arith)
           ∙ ap wants_of (sym (get_or-append c.before (o ∷ []) none i (omega (arith, c.many))))
 

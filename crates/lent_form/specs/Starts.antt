@@ -1,10 +1,10 @@
 -- Where the functions of lent code stand: a table of their lines.
-use Rattle.std.specs.Prelude.{◌≡◌, List, [], ◌∷◌, ℕ, zero, suc, ◌+◌, ◌<◌, length, get_or}
+use Rattle.std.specs.Prelude.{◌≡◌, List, [], ◌∷◌, ℕ, zero, suc, ◌+◌, ◌<◌, length, get_or, Result, Ok, Err}
 use Rattle.semantics.specs.Outcome.{Outcome, done, stop}
 use Rattle.semantics.specs.Code.{rows}
 use Rattle.semantics_lent.specs.Form.{Lent}
 use Rattle.lent_form.specs.declared.Formed.{Formed}
-use Rattle.lent_form.specs.declared.Formed.TheVariants.{Accepted, Refused}
+use Rattle.lent_form.specs.declared.Fault.{Fault}
 
 -- the lines of a function: its own, its parameters' and its tree's
 unfoldable pub lent_size : Lent → ℕ
@@ -31,11 +31,11 @@ abbrev pub numbered : Outcome ℕ (List Lent) → Outcome ℕ ℕ
 numbered (done gs p) = done (length gs) p
 numbered (stop n p) = stop n p
 
-abbrev pub answered : Formed → Outcome ℕ ℕ
-answered (Accepted lines functions) = done functions lines
-answered (Refused p) = stop 29 p
+abbrev pub answered : Result Formed Fault → Outcome ℕ ℕ
+answered (Ok f) = done f.functions f.lines
+answered (Err e) = stop 29 e.line
 
 -- an answer with its table
-pub record Answers (o : Outcome ℕ (List Lent)) (r : Formed) (starts : List ℕ) : Type 0 where
+pub record Answers (o : Outcome ℕ (List Lent)) (r : Result Formed Fault) (starts : List ℕ) : Type 0 where
   pub is : answered r ≡ numbered o
   pub started : Started_by o starts

@@ -1,51 +1,48 @@
 -- One law for each way out of the functions.
-use Rattle.prelude.specs.Kit.{ℕ, ◌≤◌, ◌+◌, ◌<◌, ◌-◌, suc, arith, true, false, Bool, not, ◌≡◌, refl, ◌∙◌, sym, ap}
-use Rattle.prelude.specs.Kit.{fun_ext, List, ℤ, length, replicate, not-true, not-false}
-use Rattle.semantics.specs.Outcome.{Outcome, done, onward}
+use Rattle.prelude.specs.Kit.{ℕ, ◌≤◌, ◌+◌, ◌<◌, ◌-◌, suc, arith, not, ◌≡◌, refl, ◌∙◌, sym, ap}
+use Rattle.prelude.specs.Kit.{fun_ext, List, ℤ, length, replicate}
+use Rattle.semantics.specs.Outcome.{done, onward}
 use Rattle.semantics.specs.Kinds.{Borrowing, picked}
-use Rattle.semantics.specs.Live.{Set}
+use Rattle.semantics.specs.Live.{Set, empty}
 use Rattle.semantics.specs.Annotate.{NameDepths}
-use Rattle.semantics_lent.specs.Hold.{Holds, none_held, arrays_in, hold_all}
+use Rattle.semantics_lent.specs.Hold.{none_held, arrays_in, hold_all, same_holds}
 use Rattle.machine_code.specs.Reading.{name_at}
 use Rattle.lent_counts.specs.Counted.{counted}
-use Rattle.lent_hold_lines.specs.declared.Walked.{Walked}
-use Rattle.lent_hold_lines.specs.Lines.{waiting, Below, ended, Ended, asked}
-use Rattle.lent_hold_lines.proofs.Ways.{waits_none, pass_to}
+use Rattle.std.specs.Prelude.{Result, Ok, Err, IfOk}
+use Rattle.lent_form.specs.declared.Fault.{Fault}
+use Rattle.lent_hold_lines.specs.Lines.{Below, ended, Ended}
 use Rattle.lent_hold_trees.specs.Walk.{tree_at}
 use Rattle.lent_hold_trees.proofs.Trees.{after_tree}
 use Rattle.lent_hold.specs.Functions.{said, names_from, forgot, function_at, functions_at}
 use Rattle.lent_hold.proofs.Parameters.{always}
 
 module _ (kinds : List ℕ) (operands : List ℤ) (β : Borrowing) (Γ : NameDepths) (f p : ℕ) where
-  pub function_said : (c : ℕ) → c ≡ name_at operands p → (B : Set) →
-      B ≡ arrays_in Γ (picked (β f) 0 (names_from operands c (p + 1))) → (H : Holds) →
-      H ≡ hold_all Γ (picked (λ i. not (β f i)) 0 (names_from operands c (p + 1))) none_held → {r : Walked}
-      {l : List ℕ} →
-      Ended (tree_at kinds operands β Γ 64 B (waiting 256) H (asked false B (counted (replicate 256 0)))
-      (p + (1 + c))) r l →
-      function_at kinds operands β Γ f p ≡ said r.fine r.at
-  unfolding function_at forgot
-  function_said c e B b H h {r} {l} t =
-      rw (← e, ← b, ← h, ← waits_none, ← zeros) (ap forgot t.is ∙ go r.fine)
-    where
-      zeros : counted (replicate 256 0) ≡ none_held
-      zeros = fun_ext (λ n. always 0 256 n)
+  module _ (c : ℕ) (is : c ≡ name_at operands p) (B : Set) (k : List ℕ) {l : List ℕ} {r : Result ℕ Fault}
+      (tree : Ended (tree_at kinds operands β Γ 64 B empty (counted k) (same_holds (counted (replicate 256 0)))
+      (p + 1 + c)) r l) where
+    pub function_said : B ≡ arrays_in Γ (picked (β f) 0 (names_from operands c (p + 1))) →
+        counted k ≡ hold_all Γ (picked (λ i. not (β f i)) 0 (names_from operands c (p + 1))) none_held →
+        function_at kinds operands β Γ f p ≡ said r
+    unfolding function_at forgot
+    function_said b h =
+        let place : p + 1 + c ≡ p + (1 + c) = omega arith in
+        rw (← is, ← b, ← h, ← zeros, ← place) (ap forgot tree.is ∙ go r)
+      where
+        zeros : counted (replicate 256 0) ≡ none_held
+        zeros = fun_ext (λ n. always 0 256 n)
 
-      go : (fine : Bool) → forgot (ended fine r.at l) ≡ said fine r.at
-      go true = refl
-      go false = refl
+        go : (r : Result ℕ Fault) → forgot (ended r l) ≡ said r
+        go (Ok line) = refl
+        go (Err fault) = refl
 
-  pub function_near : (c : ℕ) (B : Set) (k : List ℕ) {r : Walked} {l : List ℕ} → length kinds ≤ 4096 → Below
-      (p + (1 + c)) k →
-      Ended (tree_at kinds operands β Γ 64 B (waiting 256) (counted k) (asked false B (counted (replicate 256 0)))
-      (p + (1 + c))) r l → r.fine ≡ true → r.at ≤ 4096
-  function_near c B k {r} {l} few b t e =
-      omega (
-        arith,
-        few,
-        (after_tree kinds operands β Γ 64 B (waiting 256) (asked false B (counted (replicate 256 0)))
-            (p + (1 + c)) k b t (ap not e)).1.0,
-      )
+    pub function_near : length kinds ≤ 4096 → Below (p + 1 + c) k → IfOk r (λ line. line ≤ 4096)
+    function_near few b = go r tree
+      where
+        go : (r : Result ℕ Fault) → Ended (tree_at kinds operands β Γ 64 B empty (counted k)
+            (same_holds (counted (replicate 256 0))) (p + 1 + c)) r l → IfOk r (λ line. line ≤ 4096)
+        go (Ok line) t =
+            omega (arith, few, (after_tree kinds operands β Γ 64 B empty (same_holds (counted (replicate 256 0))) k b t).1.0)
+        go (Err fault) t = tt
 
 module _ (kinds : List ℕ) (operands : List ℤ) (β : Borrowing) (Γs : ℕ → NameDepths) (n : ℕ) where
   pub record Passing (f p : ℕ) : Type 0 where
@@ -69,10 +66,9 @@ module _ (kinds : List ℕ) (operands : List ℤ) (β : Borrowing) (Γs : ℕ �
         shut : functions_at kinds operands β Γs 0 f p ≡ done tt p
         shut = refl
 
-    module _ (more : f < n) (w : Walked)
-        (one : function_at kinds operands β (Γs f) f p ≡ said w.fine w.at) where
+    module _ (more : f < n) (w : Result ℕ Fault) (one : function_at kinds operands β (Γs f) f p ≡ said w) where
       opened : functions_at kinds operands β Γs n 0 0
-          ≡ onward (λ (u : Unit {0}). functions_at kinds operands β Γs (n - (f + 1)) (suc f)) (said w.fine w.at)
+          ≡ onward (λ (u : Unit {0}). functions_at kinds operands β Γs (n - (f + 1)) (suc f)) (said w)
       unfolding functions_at
       opened =
           g.same
@@ -86,17 +82,13 @@ module _ (kinds : List ℕ) (operands : List ℤ) (β : Borrowing) (Γs : ℕ �
               (function_at kinds operands β (Γs f) f p)
           open_one m = refl
 
-      pub passing_fault : not w.fine ≡ true → functions_at kinds operands β Γs n 0 0 ≡ said w.fine w.at
+      pub passing_fault : {e : Fault} → w ≡ Err e → functions_at kinds operands β Γs n 0 0 ≡ said (Err e)
       unfolding onward
-      passing_fault e = opened ∙ rw (not-true w.fine e) refl
+      passing_fault e = opened ∙ rw e refl
 
-      pub passing_more : not w.fine ≡ false → ((w.fine ≡ true) → w.at ≤ 4096) → Passing (f + 1) w.at
+      pub passing_more : {line : ℕ} → w ≡ Ok line → line ≤ 4096 → Passing (f + 1) line
       unfolding onward
       passing_more e h = record {
-        same = opened ∙ (let z : suc f ≡ f + 1 = omega arith in rw (not-false w.fine e, z) refl);
-        near = h (not-false w.fine e);
+        same = opened ∙ (let z : suc f ≡ f + 1 = omega arith in rw (e, z) refl);
+        near = h;
       }
-
-pub all_told : {o : Outcome ℕ (Unit {0})} (r : Walked) (p : ℕ) → r ≡ pass_to p → o ≡ done tt p →
-    o ≡ said r.fine r.at
-all_told r p e h = rw e h

@@ -1,5 +1,5 @@
 -- The functions of lent code by positions, as the third walk goes over them.
-use Rattle.std.specs.Prelude.{Bool, cond, not, List, [], ◌∷◌, ℕ, zero, suc, ◌+◌, ℤ}
+use Rattle.std.specs.Prelude.{not, List, [], ◌∷◌, ℕ, zero, suc, ◌+◌, ℤ, Result, Ok, Err}
 use Rattle.semantics.specs.Outcome.{Outcome, done, stop, ◌>>=◌}
 use Rattle.semantics.specs.Kinds.{Borrowing, picked}
 use Rattle.semantics.specs.Live.{empty}
@@ -7,11 +7,13 @@ use Rattle.semantics.specs.Annotate.{NameDepths}
 use Rattle.semantics_lent.specs.Form.{Test}
 use Rattle.semantics_lent.specs.Hold.{Holds, none_held, arrays_in, hold_all, same_holds}
 use Rattle.machine_code.specs.Reading.{name_at}
+use Rattle.lent_form.specs.declared.Fault.{Fault}
 use Rattle.lent_hold_trees.specs.Walk.{tree_at}
 
 -- what is told: the next line, or the line at fault
-abbrev pub said : Bool → ℕ → Outcome ℕ (Unit {0})
-said fine at = cond fine (done tt at) (stop 29 at)
+abbrev pub said : Result ℕ Fault → Outcome ℕ (Unit {0})
+said (Ok line) = done tt line
+said (Err fault) = stop 29 fault.line
 
 -- the names of n parameters from a position on
 unfoldable pub names_from : List ℤ → ℕ → ℕ → List ℕ

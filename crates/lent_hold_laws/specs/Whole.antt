@@ -13,7 +13,7 @@ use Rattle.semantics_lent.specs.Calls.{lent_routines}
 use Rattle.machine_code.specs.Reading.{depth_in}
 use Rattle.machine_code.specs.Rows.{At}
 use Rattle.lent_atoms.specs.Told.{depths}
-use Rattle.lent_hold.specs.Functions.{said, functions_at}
+use Rattle.lent_hold.specs.Functions.{functions_at}
 use Rattle.lent_soundness.specs.Functions.{Few, AllFew}
 use Rattle.lent_soundness.specs.Accepted.{LentFits}
 use Rattle.lent_passing.specs.Functions.{lent_code, FunctionsFormed}
@@ -75,7 +75,8 @@ module _ (kinds : List ℕ) (operands : List ℤ) (few : length kinds ≤ 4096) 
 
   -- so what the code says by the table of borrowed parameters is what `hold` says
   pub hold_told : (fine : Bool) (at : ℕ) →
-      functions_at kinds operands (borrows (lent_table gs)) (depths table) (length gs) 0 0 ≡ said fine at →
+      functions_at kinds operands (borrows (lent_table gs)) (depths table) (length gs) 0 0
+      ≡ cond fine (done tt at) (stop 29 at) →
       hold gs Γs ≡ cond fine (done (lent_table gs) at) (stop 29 at)
   unfolding hold onward
   hold_told fine at e =
@@ -83,6 +84,7 @@ module _ (kinds : List ℕ) (operands : List ℤ) (few : length kinds ≤ 4096) 
       (sym (hold_by_positions (borrows (lent_table gs))) ∙ e) ∙ go fine
     where
       go : (b : Bool) →
-          onward (λ (u : Unit {0}). give (lent_table gs)) (said b at) ≡ cond b (done (lent_table gs) at) (stop 29 at)
+          onward (λ (u : Unit {0}). give (lent_table gs)) (cond b (done tt at) (stop 29 at))
+          ≡ cond b (done (lent_table gs) at) (stop 29 at)
       go true = refl
       go false = refl

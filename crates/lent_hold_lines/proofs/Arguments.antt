@@ -6,7 +6,6 @@ use Rattle.semantics.specs.Kinds.{picked}
 use Rattle.semantics.specs.Code as C
 use Rattle.semantics.specs.Live.{Set}
 use Rattle.semantics.specs.Annotate.{NameDepths, is_array}
-use Rattle.semantics_lent.specs.Form.{Test}
 use Rattle.semantics_lent.specs.Hold.{Holds, spend, spend_name, readable}
 use Rattle.machine_code.specs.Reading.{atom_at, is_atom}
 use Rattle.kinds.specs.declared.Atom.{Atom}
@@ -26,7 +25,7 @@ module _ (kinds : List ℕ) (operands : List ℤ) where
   shut (suc n) p e = rw (e, atoms_from) refl
 
 module _ (kinds : List ℕ) (operands : List ℤ) (at i : ℕ) where
-  pub atoms_step : i < 16 → is_atom (get_or kinds (at + i) 0) ≡ true →
+  atoms_step : i < 16 → is_atom (get_or kinds (at + i) 0) ≡ true →
       atoms_from kinds operands (16 - i) (at + i)
       ≡ meant (atom_at kinds operands (at + i)) ∷ atoms_from kinds operands (16 - (i + 1)) (at + (i + 1))
   atoms_step h e =
@@ -34,10 +33,10 @@ module _ (kinds : List ℕ) (operands : List ℤ) (at i : ℕ) where
       let q : at + i + 1 ≡ at + (i + 1) = omega arith in
       rw (m, ← q) (opened kinds operands (16 - (i + 1)) (at + i) e)
 
-  pub atoms_stop : is_atom (get_or kinds (at + i) 0) ≡ false → atoms_from kinds operands (16 - i) (at + i) ≡ []
+  atoms_stop : is_atom (get_or kinds (at + i) 0) ≡ false → atoms_from kinds operands (16 - i) (at + i) ≡ []
   atoms_stop e = shut kinds operands (16 - i) (at + i) e
 
-  pub atoms_out : 16 ≤ i → atoms_from kinds operands (16 - i) (at + i) ≡ []
+  atoms_out : 16 ≤ i → atoms_from kinds operands (16 - i) (at + i) ≡ []
   unfolding atoms_from
   atoms_out h = let m : 16 - i ≡ 0 = omega arith in rw m refl
 
@@ -55,107 +54,158 @@ atoms_few kinds operands (suc n) p = go (is_atom (get_or kinds p 0)) (atoms_few 
     go true h = omega (arith, h)
     go false h = omega arith
 
+-- i of the atoms are counted
+pub record Counting (kinds : List ℕ) (operands : List ℤ) (at i : ℕ) : Type 0 where
+  pub same : length (atoms_from kinds operands 16 at) ≡ i + length (atoms_from kinds operands (16 - i) (at + i))
+
+pub counting_none : (kinds : List ℕ) (operands : List ℤ) (at : ℕ) → Counting kinds operands at 0
+counting_none kinds operands at = let z : at + 0 ≡ at = omega arith in record { same = rw z (omega arith) }
+
+module _ {kinds : List ℕ} {operands : List ℤ} {at i : ℕ} (s : Counting kinds operands at i) where
+  pub counting_more : i < 16 → is_atom (get_or kinds (at + i) 0) ≡ true → Counting kinds operands at (i + 1)
+  counting_more h e = record { same = omega (arith, s.same, ap length (atoms_step kinds operands at i h e)) }
+
+  pub counting_stop : is_atom (get_or kinds (at + i) 0) ≡ false → i ≡ length (atoms_from kinds operands 16 at)
+  counting_stop e = omega (arith, s.same, ap length (atoms_stop kinds operands at i e))
+
+  pub counting_out : i ≡ 16 → 16 ≡ length (atoms_from kinds operands 16 at)
+  counting_out e = omega (arith, e, s.same, ap length (atoms_out kinds operands at i (omega (arith, e))))
+
 -- ---- handed over
 
-module _ (Γ : NameDepths) where
-  pub spend_first : (a : C.Atom) (us : List C.Atom) (H : Holds) (p : ℕ) →
-      spend Γ (a ∷ us) H p ≡ onward (λ (I : Holds). spend Γ us I) (spend Γ (a ∷ []) H p)
-  unfolding spend onward
-  spend_first (C.number z) us H p = refl
-  spend_first (C.name x) us H p = go (spend_name Γ x H p)
+pub spend_first : (Γ : NameDepths) (a : C.Atom) (us : List C.Atom) (H : Holds) (p : ℕ) →
+    spend Γ (a ∷ us) H p ≡ onward (λ (I : Holds). spend Γ us I) (spend Γ (a ∷ []) H p)
+unfolding spend onward
+spend_first Γ (C.number z) us H p = refl
+spend_first Γ (C.name x) us H p = go (spend_name Γ x H p)
+  where
+    go : (o : Outcome ℕ Holds) → onward (λ (I : Holds). spend Γ us I) o
+        ≡ onward (λ (I : Holds). spend Γ us I) (onward (λ (I : Holds) (q : ℕ). done I q) o)
+    go (done I q) = refl
+    go (stop n q) = refl
+
+-- those of us that b picks are handed over from the holds H where those that stand from place i on are from the counts l
+pub record Handing (kinds : List ℕ) (operands : List ℤ) (Γ : NameDepths) (b : ℕ → Bool) (at : ℕ) (H : Holds) (i : ℕ)
+    (l : List ℕ) : Type 0 where
+  pub same : (p : ℕ) → spend Γ (picked b 0 (atoms_from kinds operands 16 at)) H p
+      ≡ spend Γ (picked b i (atoms_from kinds operands (16 - i) (at + i))) (counted l) p
+
+pub handing_none : (kinds : List ℕ) (operands : List ℤ) (Γ : NameDepths) (b : ℕ → Bool) (at : ℕ) (l : List ℕ) →
+    Handing kinds operands Γ b at (counted l) 0 l
+handing_none kinds operands Γ b at l = let z : at + 0 ≡ at = omega arith in record { same = λ p. rw z refl }
+
+module _ {kinds : List ℕ} {operands : List ℤ} {Γ : NameDepths} {b : ℕ → Bool} {at : ℕ} {H : Holds} {i : ℕ} {l : List ℕ}
+    (s : Handing kinds operands Γ b at H i l) where
+  over : atoms_from kinds operands (16 - i) (at + i) ≡ [] →
+      spend Γ (picked b 0 (atoms_from kinds operands 16 at)) H ≡ told true l
+  unfolding spend
+  over e = λ j p. (s.same p ∙ go p) j
     where
-      go : (o : Outcome ℕ Holds) → onward (λ (I : Holds). spend Γ us I) o
-          ≡ onward (λ (I : Holds). spend Γ us I) (onward (λ (I : Holds) (q : ℕ). done I q) o)
-      go (done I q) = refl
-      go (stop n q) = refl
+      go : (p : ℕ) → spend Γ (picked b i (atoms_from kinds operands (16 - i) (at + i))) (counted l) p
+          ≡ done (counted l) p
+      go p = rw e refl
 
-  pub handed : (a b : Atom) (r t : Bool) (l m : List ℕ) → a ≡ b → spend Γ (meant a ∷ []) (counted l) ≡ told r
-      m → r ≡ t →
-      spend Γ (meant b ∷ []) (counted l) ≡ told t m
-  handed a b r t l m e h f = rw (← e, ← f) h
+  pub handing_out : 16 ≤ i → spend Γ (picked b 0 (atoms_from kinds operands 16 at)) H ≡ told true l
+  handing_out h = over (atoms_out kinds operands at i h)
 
-  -- all of us are handed over from the holds H where those of vs that b picks are from the counts l
-  pub record Handing (b : ℕ → Bool) (us : List C.Atom) (H : Holds) (i : ℕ) (vs : List C.Atom)
-      (l : List ℕ) : Type 0 where
-    pub same : (p : ℕ) → spend Γ (picked b 0 us) H p ≡ spend Γ (picked b i vs) (counted l) p
+  pub handing_stop : is_atom (get_or kinds (at + i) 0) ≡ false →
+      spend Γ (picked b 0 (atoms_from kinds operands 16 at)) H ≡ told true l
+  handing_stop e = over (atoms_stop kinds operands at i e)
 
-  module _ {b : ℕ → Bool} {us : List C.Atom} {H : Holds} {i : ℕ} {vs : List C.Atom} {l : List ℕ} where
-    pub handing_over : Handing b us H i vs l → vs ≡ [] → spend Γ (picked b 0 us) H ≡ told true l
-    unfolding spend
-    handing_over h e = λ j p. (h.same p ∙ go p) j
+  module _ (h : i < 16) (e : is_atom (get_or kinds (at + i) 0) ≡ true) where
+    pub handing_kept : b i ≡ false → Handing kinds operands Γ b at H (i + 1) l
+    handing_kept f = record { same = λ p. s.same p ∙ go p }
       where
-        go : (p : ℕ) → spend Γ (picked b i vs) (counted l) p ≡ done (counted l) p
-        go p = rw e refl
+        go : (p : ℕ) → spend Γ (picked b i (atoms_from kinds operands (16 - i) (at + i))) (counted l) p
+            ≡ spend Γ (picked b (i + 1) (atoms_from kinds operands (16 - (i + 1)) (at + (i + 1)))) (counted l) p
+        go p = let z : i + 1 ≡ suc i = omega arith in rw (atoms_step kinds operands at i h e, f, z) refl
 
-    pub handing_kept : Handing b us H i vs l → (a : C.Atom) (ws : List C.Atom) → vs ≡ a ∷ ws → b i ≡ false →
-        Handing b us H (i + 1) ws l
-    handing_kept h a ws e f = record { same = λ p. h.same p ∙ go p }
-      where
-        go : (p : ℕ) → spend Γ (picked b i vs) (counted l) p ≡ spend Γ (picked b (i + 1) ws) (counted l) p
-        go p = let z : i + 1 ≡ suc i = omega arith in rw (e, f, z) refl
+    module _ (f : b i ≡ true) {a : Atom} (is : a ≡ atom_at kinds operands (at + i)) where
+      first : (p : ℕ) → spend Γ (picked b i (atoms_from kinds operands (16 - i) (at + i))) (counted l) p
+          ≡ onward (λ (I : Holds).
+          spend Γ (picked b (i + 1) (atoms_from kinds operands (16 - (i + 1)) (at + (i + 1)))) I)
+          (spend Γ (meant a ∷ []) (counted l) p)
+      first p =
+          let z : i + 1 ≡ suc i = omega arith in
+          rw (atoms_step kinds operands at i h e, f, is, z)
+          (spend_first Γ (meant (atom_at kinds operands (at + i)))
+          (picked b (suc i) (atoms_from kinds operands (16 - suc i) (at + suc i))) (counted l) p)
 
-    pub handing_more : Handing b us H i vs l → (a : C.Atom) (ws : List C.Atom) → vs ≡ a ∷ ws → b i ≡ true →
-        (m : List ℕ) → spend Γ (a ∷ []) (counted l) ≡ told true m → Handing b us H (i + 1) ws m
-    unfolding onward
-    handing_more h a ws e f m s = record { same = λ p. h.same p ∙ go p }
-      where
-        go : (p : ℕ) → spend Γ (picked b i vs) (counted l) p ≡ spend Γ (picked b (i + 1) ws) (counted m) p
-        go p =
-            let z : i + 1 ≡ suc i = omega arith in
-            rw (e, f, z) (spend_first a (picked b (suc i) ws) (counted l) p
-            ∙ ap (λ (t : Test Holds). onward (λ (I : Holds). spend Γ (picked b (suc i) ws) I) (t p)) s)
+      pub handing_more : {r : Bool} (m : List ℕ) → spend Γ (meant a ∷ []) (counted l) ≡ told r m → r ≡ true →
+          Handing kinds operands Γ b at H (i + 1) m
+      unfolding onward
+      handing_more {r} m g t = record { same = λ p. s.same p ∙ first p ∙ go p }
+        where
+          go : (p : ℕ) → onward (λ (I : Holds).
+              spend Γ (picked b (i + 1) (atoms_from kinds operands (16 - (i + 1)) (at + (i + 1)))) I)
+              (spend Γ (meant a ∷ []) (counted l) p)
+              ≡ spend Γ (picked b (i + 1) (atoms_from kinds operands (16 - (i + 1)) (at + (i + 1)))) (counted m) p
+          go p = rw (g, t) refl
 
-    pub handing_fault : Handing b us H i vs l → (a : C.Atom) (ws : List C.Atom) → vs ≡ a ∷ ws → b i ≡ true →
-        (m n : List ℕ) → spend Γ (a ∷ []) (counted l) ≡ told false m → spend Γ (picked b 0 us) H ≡ told false n
-    unfolding onward
-    handing_fault h a ws e f m n s = λ j p. (h.same p ∙ go p) j
-      where
-        go : (p : ℕ) → spend Γ (picked b i vs) (counted l) p ≡ stop 29 p
-        go p =
-            rw (e, f) (spend_first a (picked b (suc i) ws) (counted l) p
-            ∙ ap (λ (t : Test Holds). onward (λ (I : Holds). spend Γ (picked b (suc i) ws) I) (t p)) s)
+      pub handing_fault : {r : Bool} (m : List ℕ) → spend Γ (meant a ∷ []) (counted l) ≡ told r m → r ≡ false →
+          spend Γ (picked b 0 (atoms_from kinds operands 16 at)) H ≡ told false m
+      unfolding onward
+      handing_fault {r} m g t = λ j p. (s.same p ∙ first p ∙ go p) j
+        where
+          go : (p : ℕ) → onward (λ (I : Holds).
+              spend Γ (picked b (i + 1) (atoms_from kinds operands (16 - (i + 1)) (at + (i + 1)))) I)
+              (spend Γ (meant a ∷ []) (counted l) p) ≡ stop 29 p
+          go p = rw (g, t) refl
 
 -- ---- read
 
-module _ (Γ : NameDepths) (B : Set) (H : Holds) where
-  and_assoc : (a b c : Bool) → ((a && b) && c) ≡ (a && (b && c))
-  and_assoc true b c = refl
-  and_assoc false b c = refl
+and_assoc : (a b c : Bool) → ((a && b) && c) ≡ (a && (b && c))
+and_assoc true b c = refl
+and_assoc false b c = refl
 
-  pub read_first : (a : C.Atom) (us : List C.Atom) →
-      readable Γ B H (a ∷ us) ≡ (readable Γ B H (a ∷ []) && readable Γ B H us)
-  read_first (C.number z) us = refl
-  read_first (C.name x) us = sym (and_assoc (not (is_array Γ x) || _) true (readable Γ B H us))
+read_first : (Γ : NameDepths) (B : Set) (H : Holds) (a : C.Atom) (us : List C.Atom) →
+    readable Γ B H (a ∷ us) ≡ (readable Γ B H (a ∷ []) && readable Γ B H us)
+read_first Γ B H (C.number z) us = refl
+read_first Γ B H (C.name x) us = sym (and_assoc (not (is_array Γ x) || _) true (readable Γ B H us))
 
-  pub record Reading (b : ℕ → Bool) (us : List C.Atom) (i : ℕ) (vs : List C.Atom) : Type 0 where
-    pub same : readable Γ B H (picked b 0 us) ≡ readable Γ B H (picked b i vs)
+-- those of us that b picks may be read where those that stand from place i on may be
+pub record Reading (kinds : List ℕ) (operands : List ℤ) (Γ : NameDepths) (B : Set) (H : Holds) (b : ℕ → Bool) (at i : ℕ)
+    : Type 0 where
+  pub same : readable Γ B H (picked b 0 (atoms_from kinds operands 16 at))
+      ≡ readable Γ B H (picked b i (atoms_from kinds operands (16 - i) (at + i)))
 
-  module _ {b : ℕ → Bool} {us : List C.Atom} {i : ℕ} {vs : List C.Atom} where
-    pub reading_over : Reading b us i vs → vs ≡ [] → true ≡ readable Γ B H (picked b 0 us)
-    reading_over h e = sym (h.same ∙ ap (λ (ws : List C.Atom). readable Γ B H (picked b i ws)) e)
+pub reading_none : (kinds : List ℕ) (operands : List ℤ) (Γ : NameDepths) (B : Set) (H : Holds) (b : ℕ → Bool)
+    (at : ℕ) → Reading kinds operands Γ B H b at 0
+reading_none kinds operands Γ B H b at = let z : at + 0 ≡ at = omega arith in record { same = rw z refl }
 
-    pub reading_kept : Reading b us i vs → (a : C.Atom) (ws : List C.Atom) → vs ≡ a ∷ ws → b i ≡ false →
-        Reading b us (i + 1) ws
-    reading_kept h a ws e f = record { same = h.same ∙ go }
+module _ {kinds : List ℕ} {operands : List ℤ} {Γ : NameDepths} {B : Set} {H : Holds} {b : ℕ → Bool} {at i : ℕ}
+    (s : Reading kinds operands Γ B H b at i) where
+  pub reading_out : 16 ≤ i → true ≡ readable Γ B H (picked b 0 (atoms_from kinds operands 16 at))
+  reading_out h =
+      sym (s.same ∙ ap (λ (us : List C.Atom). readable Γ B H (picked b i us))
+      (atoms_out kinds operands at i h))
+
+  pub reading_stop : is_atom (get_or kinds (at + i) 0) ≡ false →
+      true ≡ readable Γ B H (picked b 0 (atoms_from kinds operands 16 at))
+  reading_stop e =
+      sym (s.same ∙ ap (λ (us : List C.Atom). readable Γ B H (picked b i us))
+      (atoms_stop kinds operands at i e))
+
+  module _ (h : i < 16) (e : is_atom (get_or kinds (at + i) 0) ≡ true) where
+    pub reading_kept : b i ≡ false → Reading kinds operands Γ B H b at (i + 1)
+    reading_kept f = record { same = s.same ∙ go }
       where
-        go : readable Γ B H (picked b i vs) ≡ readable Γ B H (picked b (i + 1) ws)
-        go = let z : i + 1 ≡ suc i = omega arith in rw (e, f, z) refl
+        go : readable Γ B H (picked b i (atoms_from kinds operands (16 - i) (at + i)))
+            ≡ readable Γ B H (picked b (i + 1) (atoms_from kinds operands (16 - (i + 1)) (at + (i + 1))))
+        go = let z : i + 1 ≡ suc i = omega arith in rw (atoms_step kinds operands at i h e, f, z) refl
 
-    pub reading_more : Reading b us i vs → (a : C.Atom) (ws : List C.Atom) → vs ≡ a ∷ ws → b i ≡ true →
-        readable Γ B H (a ∷ []) ≡ true → Reading b us (i + 1) ws
-    reading_more h a ws e f s = record { same = h.same ∙ go }
-      where
-        go : readable Γ B H (picked b i vs) ≡ readable Γ B H (picked b (i + 1) ws)
-        go =
-            let z : i + 1 ≡ suc i = omega arith in
-            rw (e, f, z) (read_first a (picked b (suc i) ws)
-            ∙ ap (λ (t : Bool). t && readable Γ B H (picked b (suc i) ws)) s)
+    module _ (f : b i ≡ true) {a : Atom} (is : a ≡ atom_at kinds operands (at + i)) {r : Bool}
+        (g : r ≡ readable Γ B H (meant a ∷ [])) where
+      first_read : readable Γ B H (picked b i (atoms_from kinds operands (16 - i) (at + i)))
+          ≡ (r && readable Γ B H (picked b (i + 1) (atoms_from kinds operands (16 - (i + 1)) (at + (i + 1)))))
+      first_read =
+          let z : i + 1 ≡ suc i = omega arith in
+          rw (g, atoms_step kinds operands at i h e, f, is, z)
+          (read_first Γ B H (meant (atom_at kinds operands (at + i)))
+          (picked b (suc i) (atoms_from kinds operands (16 - suc i) (at + suc i))))
 
-    pub reading_fault : Reading b us i vs → (a : C.Atom) (ws : List C.Atom) → vs ≡ a ∷ ws → b i ≡ true →
-        readable Γ B H (a ∷ []) ≡ false → false ≡ readable Γ B H (picked b 0 us)
-    reading_fault h a ws e f s = sym (h.same ∙ go)
-      where
-        go : readable Γ B H (picked b i vs) ≡ false
-        go =
-            rw (e, f) (read_first a (picked b (suc i) ws)
-            ∙ ap (λ (t : Bool). t && readable Γ B H (picked b (suc i) ws)) s)
+      pub reading_more : r ≡ true → Reading kinds operands Γ B H b at (i + 1)
+      reading_more t = record { same = s.same ∙ first_read ∙ rw t refl }
+
+      pub reading_fault : r ≡ false → false ≡ readable Γ B H (picked b 0 (atoms_from kinds operands 16 at))
+      reading_fault t = sym (s.same ∙ first_read ∙ rw t refl)

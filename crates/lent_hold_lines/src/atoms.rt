@@ -5,68 +5,53 @@ ghost use Rattle.semantics.specs.Borrow.{borrows};
 ghost use Rattle.semantics_lent.specs.Hold.{spend, readable};
 ghost use Rattle.machine_code.specs.Reading.{Cut};
 ghost use Rattle.lent_counts.specs.Counted.{counted, set_of};
-ghost use Rattle.lent_atoms.specs.Told.{depths, told};
-ghost use Rattle.lent_hold_lines.specs.Lines.{atoms_from, is_read};
+ghost use Rattle.lent_atoms.specs.Told.{told};
+ghost use Rattle.lent_hold_lines.specs.Lines.{depths_of, borrowed_of, atoms_from, is_read};
 
+use crate::Function;
 use lent_atoms::{hand_over, may_read};
 
 // How many atoms stand from a line on, at most 16.
-pub fn count_atoms(kinds: &[u8], operands: &[i64], at: usize) -> usize
+pub fn count_atoms(of: &Function, at: usize) -> usize
     requires { at < 65536 }
-    ensures { result ≡ length (atoms_from kinds.now operands.now 16 at) }
+    ensures { result ≡ length (atoms_from of.now.kinds.now of.now.operands.now 16 at) }
 {
-    let mut n: usize = 0;
-    while n < 16 {
-        if !machine_code::atom_stands(kinds, at + n) {
+    for n in 0..16 {
+        if !machine_code::atom_stands(of.kinds, at + n) {
             return n;
         }
-        n = n + 1;
     }
-    n
+    16
 }
 
 // Whether the atom at place i is read: of a call's those at borrowed places.
-fn is_read(borrowed: &[[bool; 8]; 32], call: bool, g: u8, i: usize) -> bool
-    ensures { result ≡ is_read (borrows borrowed.now) call g i }
+fn is_read(borrowed: &[[bool; 8]; 32], callee: Option<u8>, i: usize) -> bool
+    ensures { result ≡ is_read (borrows borrowed.now) callee i }
 {
-    if call {
-        return plain_rows::is_borrowed(borrowed, g, i);
+    match callee {
+        Some(g) => plain_rows::is_borrowed(borrowed, g, i),
+        None => false,
     }
-    false
 }
 
-// The atoms of a call of function g, or of a literal, from a line on: those that are not read are handed over; whether
-// they may be.
-pub fn hand_atoms(
-    kinds: &[u8],
-    operands: &[i64],
-    table: &[u8],
-    borrowed: &[[bool; 8]; 32],
-    f: u8,
-    call: bool,
-    g: u8,
-    at: usize,
-    holds: &mut [u16; 256],
-) -> bool
-    requires { (at < 65536) × (Cut kinds.now operands.now × (length holds.old ≡ 256)) }
-    ensures holds_value { spend (depths table.now f)
-        (picked (λ i. not (is_read (borrows borrowed.now) call g i)) 0
-        (atoms_from kinds.now operands.now 16 at))
+// The atoms of a call, or of a literal, from a line on: those that are not read are handed over; whether they may be.
+pub fn hand_atoms(of: &Function, callee: Option<u8>, at: usize, holds: &mut [u16; 256]) -> bool
+    requires { (at < 65536) × Cut of.now.kinds.now of.now.operands.now }
+    ensures holds_value { spend (depths_of of.now)
+        (picked (λ i. not (is_read (borrowed_of of.now) callee i)) 0
+        (atoms_from of.now.kinds.now of.now.operands.now 16 at))
         (counted holds.old) ≡ told result holds.new }
     ensures holds_len { length holds.new ≡ 256 }
 {
-    let mut i: usize = 0;
-    while i < 16 {
-        if !machine_code::atom_stands(kinds, at + i) {
-            return true;
+    for i in 0..16 {
+        if !machine_code::atom_stands(of.kinds, at + i) {
+            break;
         }
-        let read = is_read(borrowed, call, g, i);
-        let a = machine_code::atom_at(kinds, operands, at + i);
-        i = i + 1;
-        if read {
+        if is_read(of.borrowed, callee, i) {
             continue;
         }
-        if !hand_over(table, f, a, holds) {
+        let a = machine_code::atom_at(of.kinds, of.operands, at + i);
+        if !hand_over(of.depths, of.number, a, holds) {
             return false;
         }
     }
@@ -75,35 +60,26 @@ pub fn hand_atoms(
 
 // Whether those that are read may be.
 pub fn read_atoms(
-    kinds: &[u8],
-    operands: &[i64],
-    table: &[u8],
-    borrowed: &[[bool; 8]; 32],
-    f: u8,
-    call: bool,
-    g: u8,
+    of: &Function,
+    callee: Option<u8>,
     at: usize,
     lent: &[bool; 256],
     holds: &[u16; 256],
 ) -> bool
-    requires { (at < 65536) × (Cut kinds.now operands.now
-        × ((length lent.now ≡ 256) × (length holds.now ≡ 256))) }
-    ensures { result ≡ readable (depths table.now f) (set_of lent.now)
-        (counted holds.now) (picked (is_read (borrows borrowed.now) call g) 0
-        (atoms_from kinds.now operands.now 16 at)) }
+    requires { (at < 65536) × Cut of.now.kinds.now of.now.operands.now }
+    ensures { result ≡ readable (depths_of of.now) (set_of lent.now)
+        (counted holds.now) (picked (is_read (borrowed_of of.now) callee) 0
+        (atoms_from of.now.kinds.now of.now.operands.now 16 at)) }
 {
-    let mut i: usize = 0;
-    while i < 16 {
-        if !machine_code::atom_stands(kinds, at + i) {
-            return true;
+    for i in 0..16 {
+        if !machine_code::atom_stands(of.kinds, at + i) {
+            break;
         }
-        let read = is_read(borrowed, call, g, i);
-        let a = machine_code::atom_at(kinds, operands, at + i);
-        i = i + 1;
-        if !read {
+        if !is_read(of.borrowed, callee, i) {
             continue;
         }
-        if !may_read(table, f, lent, holds, a) {
+        let a = machine_code::atom_at(of.kinds, of.operands, at + i);
+        if !may_read(of.depths, of.number, lent, holds, a) {
             return false;
         }
     }

@@ -4,295 +4,246 @@
 
 mod atoms;
 
-ghost use Rattle.std.specs.Prelude.{◌≡◌, true, false, [], ◌∷◌, ◌+◌, ◌<◌, length};
-ghost use Rattle.semantics.specs.Borrow.{borrows};
+ghost use Rattle.std.specs.Prelude.{◌≡◌, [], ◌∷◌, ◌<◌, map, length, Some, None};
 ghost use Rattle.semantics_lent.specs.Hold.{readable, arrays_in};
 ghost use Rattle.machine_code.specs.Reading.{Cut};
 ghost use Rattle.lent_counts.specs.Counted.{counted, set_of};
-ghost use Rattle.lent_atoms.specs.Told.{meant, depths};
-ghost use Rattle.lent_hold_lines.specs.Lines.{waiting, Below, Passed, Ended, asked, read_at, index_at, hand_at};
-ghost use Rattle.lent_hold_lines.specs.Lines.{may_retain, retain_at, release_at, end_at, leaf_at};
+ghost use Rattle.lent_atoms.specs.Told.{meant};
+ghost use Rattle.lent_hold_lines.specs.Lines.{depths_of, borrowed_of, waiting, Below, Passed, Ended, asked};
+ghost use Rattle.lent_hold_lines.specs.Lines.{read_at, index_at, hand_at, may_retain, retain_at, release_at, end_at};
+ghost use Rattle.lent_hold_lines.specs.Lines.{leaf_at};
 
 use atoms::{count_atoms, hand_atoms, read_atoms};
 use kinds::Atom;
 use lent_atoms::{gain, hand_over, is_array, may_read};
+use lent_form::Fault;
 use machine_code::Line;
 
-// The pending name where there is none.
-pub const NOTHING: u16 = 256;
-
-// What became of a line or a tree: the next line, with the name that is pending there; or the line at fault.
+// A function of lent code: the rows of all functions, its number among them, the depths of names by function, and the
+// table of borrowed parameters.
 #[derive(Clone, Copy)]
-pub struct Walked {
-    pub fine: bool,
-    pub at: usize,
-    pub wait: u16,
+pub struct Function<'a> {
+    pub kinds: &'a [u8],
+    pub operands: &'a [i64],
+    pub number: u8,
+    pub depths: &'a [u8],
+    pub borrowed: &'a [[bool; 8]; 32],
 }
 
-// A fault at a line.
-pub fn at_fault(at: usize) -> Walked
-    ensures { result ≡ record { fine = false; at = at; wait = 256 } }
-{
-    Walked {
-        fine: false,
-        at,
-        wait: NOTHING,
-    }
+// The line after a line, with the name that is pending there.
+#[derive(Clone, Copy)]
+pub struct Next {
+    pub line: usize,
+    pub pending: Option<u8>,
 }
 
-// The next line, with no name pending.
-pub fn passed_to(at: usize) -> Walked
-    ensures { result ≡ record { fine = true; at = at; wait = 256 } }
-{
-    Walked {
-        fine: true,
-        at,
-        wait: NOTHING,
-    }
+// What is asked of the holds at a tree's end: none on a name bound in it, by the holds before it; or the same as these.
+#[derive(Clone, Copy)]
+pub enum Asked<'a> {
+    NoneBound(&'a [u16; 256]),
+    Same(&'a [u16; 256]),
 }
 
 // The pending name, where x would be if it is an array.
-pub fn pending(table: &[u8], f: u8, x: u8) -> u16
-    ensures { waiting result ≡ arrays_in (depths table.now f) (x ∷ []) }
+pub fn pending(of: &Function, x: u8) -> Option<u8>
+    ensures { waiting result ≡ arrays_in (depths_of of.now) (x ∷ []) }
 {
-    if is_array(table, f, x) {
-        return x as u16;
-    }
-    NOTHING
+    is_array(of.depths, of.number, x).then_some(x)
 }
 
-// Whether two atoms may be read.
-fn may_read_two(
-    table: &[u8],
-    f: u8,
-    lent: &[bool; 256],
-    holds: &[u16; 256],
-    a: Atom,
-    b: Atom,
-) -> bool
-    requires { (length lent.now ≡ 256) × (length holds.now ≡ 256) }
-    ensures { result ≡ readable (depths table.now f) (set_of lent.now)
-        (counted holds.now) (meant a ∷ (meant b ∷ [])) }
+// Whether some atoms may be read.
+fn may_read_all(of: &Function, lent: &[bool; 256], holds: &[u16; 256], atoms: &[Atom]) -> bool
+    ensures { result ≡ readable (depths_of of.now) (set_of lent.now)
+        (counted holds.now) (map meant atoms.now) }
 {
-    if may_read(table, f, lent, holds, a) {
-        return may_read(table, f, lent, holds, b);
+    for a in atoms {
+        if !may_read(of.depths, of.number, lent, holds, *a) {
+            return false;
+        }
     }
-    false
+    true
 }
 
 // ---- lines
 
-// A line of n atoms that are read, which may be or not.
+// A line of atoms that are read.
+#[tactic(auto, using(crate::proofs::Ways::read_laws))]
 fn walk_reading(
-    table: &[u8],
-    f: u8,
+    of: &Function,
     at: usize,
     x: u8,
-    n: usize,
-    fine: bool,
-    holds: &mut [u16; 256],
-) -> Walked
-    requires { (at < 4096) × ((n < 17) × Below at holds.old) }
-    ensures { Passed (read_at (depths table.now f) x n fine (counted holds.old) at)
-        result holds.new }
-{
-    if !fine {
-        return at_fault(at);
-    }
-    gain(table, f, x, holds);
-    passed_to(at + (1 + n))
-}
-
-// An index, whose atoms may be read or not: its result is pending, if it is an array.
-fn walk_index(table: &[u8], f: u8, at: usize, x: u8, fine: bool, holds: &[u16; 256]) -> Walked
-    requires { (at < 4096) × (length holds.now ≡ 256) }
-    ensures { Passed (index_at (depths table.now f) x fine (counted holds.now) at)
-        result holds.now }
-{
-    if !fine {
-        return at_fault(at);
-    }
-    Walked {
-        fine: true,
-        at: at + 3,
-        wait: pending(table, f, x),
-    }
-}
-
-// A call of function g, or a literal.
-fn walk_handing(
-    kinds: &[u8],
-    operands: &[i64],
-    table: &[u8],
-    borrowed: &[[bool; 8]; 32],
-    f: u8,
-    at: usize,
-    x: u8,
-    call: bool,
-    g: u8,
+    atoms: &[Atom],
     lent: &[bool; 256],
     holds: &mut [u16; 256],
-) -> Walked
-    requires { (at < 4096) × (Cut kinds.now operands.now × ((length lent.now ≡ 256) × Below at holds.old)) }
-    ensures { Passed (hand_at kinds.now operands.now (borrows borrowed.now)
-        (depths table.now f) x call g (set_of lent.now) (counted holds.old) at)
+) -> Result<Next, Fault>
+    requires { (at < 4096) × ((length atoms.now < 17) × Below at holds.old) }
+    ensures { Passed (read_at (depths_of of.now) x (length atoms.now)
+        (readable (depths_of of.now) (set_of lent.now) (counted holds.old) (map meant atoms.now))
+        (counted holds.old) at) result holds.new }
+{
+    if !may_read_all(of, lent, holds, atoms) {
+        return Err(Fault { line: at });
+    }
+    gain(of.depths, of.number, x, holds);
+    Ok(Next {
+        line: at + 1 + atoms.len(),
+        pending: None,
+    })
+}
+
+// An index, whose result is pending, if it is an array.
+#[tactic(auto, using(crate::proofs::Ways::index_laws))]
+fn walk_index(
+    of: &Function,
+    at: usize,
+    x: u8,
+    atoms: &[Atom],
+    lent: &[bool; 256],
+    holds: &[u16; 256],
+) -> Result<Next, Fault>
+    requires { at < 4096 }
+    ensures { Passed (index_at (depths_of of.now) x
+        (readable (depths_of of.now) (set_of lent.now) (counted holds.now) (map meant atoms.now))
+        (counted holds.now) at) result holds.now }
+{
+    if !may_read_all(of, lent, holds, atoms) {
+        return Err(Fault { line: at });
+    }
+    Ok(Next {
+        line: at + 3,
+        pending: pending(of, x),
+    })
+}
+
+// A call, or a literal.
+fn walk_handing(
+    of: &Function,
+    at: usize,
+    x: u8,
+    callee: Option<u8>,
+    lent: &[bool; 256],
+    holds: &mut [u16; 256],
+) -> Result<Next, Fault>
+    requires { (at < 4096) × (Cut of.now.kinds.now of.now.operands.now × Below at holds.old) }
+    ensures { Passed (hand_at of.now.kinds.now of.now.operands.now (borrowed_of of.now)
+        (depths_of of.now) x callee (set_of lent.now) (counted holds.old) at)
         result holds.new }
 {
-    if !hand_atoms(kinds, operands, table, borrowed, f, call, g, at + 1, holds) {
-        return at_fault(at);
+    if !hand_atoms(of, callee, at + 1, holds) || !read_atoms(of, callee, at + 1, lent, holds) {
+        return Err(Fault { line: at });
     }
-    if !read_atoms(
-        kinds,
-        operands,
-        table,
-        borrowed,
-        f,
-        call,
-        g,
-        at + 1,
-        lent,
-        holds,
-    ) {
-        return at_fault(at);
-    }
-    let n = count_atoms(kinds, operands, at + 1);
-    gain(table, f, x, holds);
-    passed_to(at + (1 + n))
+    let n = count_atoms(of, at + 1);
+    gain(of.depths, of.number, x, holds);
+    Ok(Next {
+        line: at + 1 + n,
+        pending: None,
+    })
 }
 
 // Whether a name may be retained: it is pending, lent or holds one.
-fn may_retain(x: u8, wait: u16, lent: &[bool; 256], holds: &[u16; 256]) -> bool
-    requires { (length lent.now ≡ 256) × (length holds.now ≡ 256) }
-    ensures { result ≡ may_retain (waiting wait) (set_of lent.now) (counted holds.now) x }
+fn may_retain(x: u8, pending: Option<u8>, lent: &[bool; 256], holds: &[u16; 256]) -> bool
+    ensures { result ≡ may_retain (waiting pending) (set_of lent.now) (counted holds.now) x }
 {
-    if wait == x as u16 {
-        return true;
-    }
-    if lent[x as usize] {
-        return true;
-    }
-    0 < holds[x as usize]
+    pending == Some(x) || lent[x as usize] || 0 < holds[x as usize]
 }
 
 // A name is retained.
-fn walk_retain(at: usize, x: u8, wait: u16, lent: &[bool; 256], holds: &mut [u16; 256]) -> Walked
-    requires { (at < 4096) × ((length lent.now ≡ 256) × Below at holds.old) }
-    ensures { Passed (retain_at x (set_of lent.now) (waiting wait) (counted holds.old) at)
+#[tactic(auto, using(crate::proofs::Ways::retain_laws))]
+fn walk_retain(
+    at: usize,
+    x: u8,
+    pending: Option<u8>,
+    lent: &[bool; 256],
+    holds: &mut [u16; 256],
+) -> Result<Next, Fault>
+    requires { (at < 4096) × Below at holds.old }
+    ensures { Passed (retain_at x (set_of lent.now) (waiting pending) (counted holds.old) at)
         result holds.new }
 {
-    if !may_retain(x, wait, lent, holds) {
-        return at_fault(at);
+    if !may_retain(x, pending, lent, holds) {
+        return Err(Fault { line: at });
     }
-    let n = holds[x as usize];
-    holds[x as usize] = n + 1;
-    passed_to(at + 1)
+    holds[x as usize] += 1;
+    Ok(Next {
+        line: at + 1,
+        pending: None,
+    })
 }
 
 // A name is released: it holds one.
 #[tactic(auto, using(crate::proofs::Ways::release_laws))]
-fn walk_release(at: usize, x: u8, holds: &mut [u16; 256]) -> Walked
-    requires { (at < 4096) × (length holds.old ≡ 256) }
+fn walk_release(at: usize, x: u8, holds: &mut [u16; 256]) -> Result<Next, Fault>
+    requires { at < 4096 }
     ensures { Passed (release_at x (counted holds.old) at)
         result holds.new }
 {
     let n = holds[x as usize];
     if n == 0 {
-        return at_fault(at);
+        return Err(Fault { line: at });
     }
     holds[x as usize] = n - 1;
-    passed_to(at + 1)
+    Ok(Next {
+        line: at + 1,
+        pending: None,
+    })
 }
 
 // A line that has no tree.
+#[tactic(auto, unfolding(crate::specs::Lines::leaf_at))]
 pub fn walk_leaf(
-    kinds: &[u8],
-    operands: &[i64],
-    table: &[u8],
-    borrowed: &[[bool; 8]; 32],
-    f: u8,
+    of: &Function,
     at: usize,
     l: Line,
     lent: &[bool; 256],
-    wait: u16,
+    pending: Option<u8>,
     holds: &mut [u16; 256],
-) -> Walked
-    requires { (at < 4096) × (Cut kinds.now operands.now × ((length lent.now ≡ 256) × Below at holds.old)) }
-    ensures { Passed (leaf_at kinds.now operands.now (borrows borrowed.now)
-        (depths table.now f) l (set_of lent.now) (waiting wait) (counted holds.old) at)
+) -> Result<Next, Fault>
+    requires { (at < 4096) × (Cut of.now.kinds.now of.now.operands.now × Below at holds.old) }
+    ensures { Passed (leaf_at of.now.kinds.now of.now.operands.now (borrowed_of of.now)
+        (depths_of of.now) l (set_of lent.now) (waiting pending) (counted holds.old) at)
         result holds.new }
 {
     match l {
-        Line::Operation(_, x, a, b) => {
-            let fine = may_read_two(table, f, lent, holds, a, b);
-            walk_reading(table, f, at, x, 2, fine, holds)
+        Line::Operation(_, x, a, b) | Line::Replicate(x, a, b) => {
+            walk_reading(of, at, x, &[a, b], lent, holds)
         }
-        Line::Replicate(x, a, b) => {
-            let fine = may_read_two(table, f, lent, holds, a, b);
-            walk_reading(table, f, at, x, 2, fine, holds)
-        }
-        Line::Length(x, a) => {
-            let fine = may_read(table, f, lent, holds, a);
-            walk_reading(table, f, at, x, 1, fine, holds)
-        }
-        Line::Iota(x, a) => {
-            let fine = may_read(table, f, lent, holds, a);
-            walk_reading(table, f, at, x, 1, fine, holds)
-        }
-        Line::Index(x, a, b) => {
-            let fine = may_read_two(table, f, lent, holds, a, b);
-            walk_index(table, f, at, x, fine, holds)
-        }
-        Line::Call(x, g) => {
-            walk_handing(
-                kinds, operands, table, borrowed, f, at, x, true, g, lent, holds,
-            )
-        }
-        Line::Literal(x, _) => {
-            walk_handing(
-                kinds, operands, table, borrowed, f, at, x, false, 0, lent, holds,
-            )
-        }
-        Line::Retain(x) => walk_retain(at, x, wait, lent, holds),
+        Line::Length(x, a) | Line::Iota(x, a) => walk_reading(of, at, x, &[a], lent, holds),
+        Line::Index(x, a, b) => walk_index(of, at, x, &[a, b], lent, holds),
+        Line::Call(x, g) => walk_handing(of, at, x, Some(g), lent, holds),
+        Line::Literal(x, _) => walk_handing(of, at, x, None, lent, holds),
+        Line::Retain(x) => walk_retain(at, x, pending, lent, holds),
         Line::Release(x) => walk_release(at, x, holds),
-        _ => at_fault(at),
+        Line::If(..) | Line::Loop(..) | Line::End(_) => Err(Fault { line: at }),
     }
 }
 
-// Whether a tree may end with these holds: a branch with none on a name bound in it, any other with those that are
-// wanted.
-fn may_end(lent: &[bool; 256], wanted: &[u16; 256], branch: bool, holds: &[u16; 256]) -> bool
-    requires { (length lent.now ≡ 256) × ((length wanted.now ≡ 256) × (length holds.now ≡ 256)) }
-    ensures { result ≡ asked branch (set_of lent.now) (counted wanted.now)
-        (counted holds.now) }
+// Whether a tree may end with these holds.
+fn may_end(lent: &[bool; 256], wanted: Asked, holds: &[u16; 256]) -> bool
+    ensures { result ≡ asked wanted.entry (set_of lent.now) (counted holds.now) }
 {
-    if branch {
-        return lent_counts::none_bound(lent, wanted, holds);
+    match wanted {
+        Asked::NoneBound(before) => lent_counts::none_bound(lent, before, holds),
+        Asked::Same(counts) => lent_counts::same_counts(counts, holds),
     }
-    lent_counts::same_counts(wanted, holds)
 }
 
-// An end line: its atom is handed over, and then the holds are as they should be.
+// An end line: its atom is handed over, and then the holds are as they should be. The line after it.
+#[tactic(auto, using(crate::proofs::Ways::end_laws))]
 pub fn walk_end(
-    table: &[u8],
-    f: u8,
+    of: &Function,
     at: usize,
     a: Atom,
     lent: &[bool; 256],
-    wanted: &[u16; 256],
-    branch: bool,
+    wanted: Asked,
     holds: &mut [u16; 256],
-) -> Walked
-    requires { (at < 4096) × ((length lent.now ≡ 256) × ((length wanted.now ≡ 256)
-        × (length holds.old ≡ 256))) }
-    ensures { Ended (end_at (depths table.now f) (meant a) (counted holds.old)
-        (asked branch (set_of lent.now) (counted wanted.now)) at)
+) -> Result<usize, Fault>
+    requires { at < 4096 }
+    ensures { Ended (end_at (depths_of of.now) (meant a) (counted holds.old)
+        (asked wanted.entry (set_of lent.now)) at)
         result holds.new }
 {
-    if !hand_over(table, f, a, holds) {
-        return at_fault(at);
+    if !hand_over(of.depths, of.number, a, holds) || !may_end(lent, wanted, holds) {
+        return Err(Fault { line: at });
     }
-    if !may_end(lent, wanted, branch, holds) {
-        return at_fault(at);
-    }
-    passed_to(at + 2)
+    Ok(at + 2)
 }

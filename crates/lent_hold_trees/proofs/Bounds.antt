@@ -1,7 +1,8 @@
 -- How far a walk goes, and how large counts get: none is above the number of the next line.
-use Rattle.prelude.specs.Kit.{ℕ, ◌≤◌, ◌+◌, ◌<◌, ◌-◌, suc, zero, pred, arith, ℕ_discrete, true, false, Bool, cond, ◌&&◌}
+use Rattle.prelude.specs.Kit.{ℕ, ◌≤◌, ◌+◌, ◌<◌, suc, zero, pred, arith, ℕ_discrete, true, false, Bool, cond, ◌&&◌}
 use Rattle.prelude.specs.Kit.{not, ◌≡◌, refl, sym, subst, some, none, Option, List, [], ◌∷◌, eqb, ltb, ℤ, length}
 use Rattle.prelude.specs.Kit.{ne_eqb, eq-eqb, ltb-true}
+use Rattle.std.specs.Prelude as R
 use Rattle.laws.specs.Tests.{both_hold}
 use Rattle.semantics.specs.Basics.{updated}
 use Rattle.semantics.specs.Outcome.{Outcome, done, stop, onward, require}
@@ -15,7 +16,6 @@ use Rattle.semantics_lent.specs.Hold.{Holds, After, plus, minus, spend, readable
 use Rattle.semantics_lent.specs.Hold.{hold_all, arrays_in, same_holds, none_bound}
 use Rattle.kinds.specs.declared.Atom.{Atom}
 use Rattle.machine_code.specs.Reading.{two_rows, line_at}
-use Rattle.machine_code.specs.declared.Loop.{Loop}
 use Rattle.machine_code.specs.declared.Line.{Line}
 use Rattle.machine_code.specs.declared.Line.TheVariants as L
 use Rattle.lent_atoms.specs.Told.{meant}
@@ -66,7 +66,7 @@ more m k H g h n = omega (arith, g, h n)
 under_plus : (m x : ℕ) (H : Holds) → Under m H → Under (m + 1) (plus x H)
 under_plus m x H h = under_put (m + 1) x (suc (H x)) H (omega (arith, h x)) (more m (m + 1) H (omega arith) h)
 
-under_minus : (m x : ℕ) (H : Holds) → Under m H → Under m (minus x H)
+pub under_minus : (m x : ℕ) (H : Holds) → Under m H → Under m (minus x H)
 under_minus m x H h = under_put m x (pred (H x)) H (omega (arith, h x)) h
 
 module _ (Γ : NameDepths) where
@@ -143,15 +143,15 @@ release_goes x H p h =
     test (Went p) (ltb 0 (H x)) p _ (omega arith, more p (p + 1) (minus x H) (omega arith) (under_minus p x H h))
 
 module _ (kinds : List ℕ) (operands : List ℤ) (β : Borrowing) (Γ : NameDepths) where
-  hand_goes : (x : ℕ) (call : Bool) (g : ℕ) (B : Set) (H : Holds) (p : ℕ) → Under p H →
-      Ends (Went p) (hand_at kinds operands β Γ x call g B H p)
+  hand_goes : (x : ℕ) (callee : R.Option ℕ) (B : Set) (H : Holds) (p : ℕ) → Under p H →
+      Ends (Went p) (hand_at kinds operands β Γ x callee B H p)
   unfolding hand_at onward
-  hand_goes x call g B H p h =
+  hand_goes x callee B H p h =
       let us = atoms_from kinds operands 16 (p + 1) in
       then (λ (I : Holds) (q : ℕ). (q ≡ p) × Under p I) (Went p) _
-      (spend Γ (picked (λ i. not (is_read β call g i)) 0 us) H p)
-      (under_spend Γ p (picked (λ i. not (is_read β call g i)) 0 us) H p h) (λ I q k.
-      test (Went p) (readable Γ B I (picked (is_read β call g) 0 us)) q _ (
+      (spend Γ (picked (λ i. not (is_read β callee i)) 0 us) H p)
+      (under_spend Γ p (picked (λ i. not (is_read β callee i)) 0 us) H p h) (λ I q k.
+      test (Went p) (readable Γ B I (picked (is_read β callee) 0 us)) q _ (
         omega (arith, k.0),
         more (p + 1) (q + (1 + length us)) (hold_also Γ x I) (omega (arith, k.0))
             (under_also Γ p x I k.1),
@@ -161,8 +161,8 @@ module _ (kinds : List ℕ) (operands : List ℤ) (β : Borrowing) (Γ : NameDep
       Ends (Went p) (leaf_at kinds operands β Γ l B P H p)
   unfolding leaf_at
   leaf_goes (L.Operation k x a b) B P H p h = read_goes Γ x 2 _ H p h
-  leaf_goes (L.Call x g) B P H p h = hand_goes x true g B H p h
-  leaf_goes (L.Literal x d) B P H p h = hand_goes x false 0 B H p h
+  leaf_goes (L.Call x g) B P H p h = hand_goes x (R.Some g) B H p h
+  leaf_goes (L.Literal x d) B P H p h = hand_goes x R.None B H p h
   leaf_goes (L.Index x a b) B P H p h = index_goes Γ x _ H p h
   leaf_goes (L.Length x a) B P H p h = read_goes Γ x 1 _ H p h
   leaf_goes (L.Iota x a) B P H p h = read_goes Γ x 1 _ H p h

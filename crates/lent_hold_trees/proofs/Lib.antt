@@ -1,4 +1,4 @@
--- The modules of `lent_hold_trees`'s laws.
-pub mod Loops
+-- The modules of `lent_hold_trees`' laws.
 pub mod Bounds
+pub mod Loops
 pub mod Trees

@@ -1,25 +1,26 @@
 -- The third walk over lent code by positions, for rows of any content. Where the rows of a tree stand from a position
 -- on it is `hold_tree`.
-use Rattle.std.specs.Prelude.{◌≡◌, Bool, true, false, List, [], ◌∷◌, ℕ, zero, suc, ◌+◌, ◌≤◌, ℤ, pos, length}
+use Rattle.std.specs.Prelude.{◌≡◌, Bool, true, false, cond, ◌||◌, eqb, ltb, List, [], ◌∷◌, ℕ, zero, suc, ◌+◌, ◌≤◌, ℤ, length}
 use Rattle.std.proofs.Math.Option.{Option, none, some}
+use Rattle.std.specs.Prelude as R
 use Rattle.semantics.specs.Outcome.{stop, ◌>>=◌, ◌>>◌, give}
 use Rattle.semantics.specs.Kinds.{Borrowing, mapping, filtering, reducing, rewriting, loop_hands, loop_reads}
 use Rattle.semantics.specs.Kinds.{element_name, carried_name}
 use Rattle.semantics.specs.Kinds as K
 use Rattle.semantics.specs.Code as C
 use Rattle.semantics.specs.Live.{Set, empty}
-use Rattle.semantics.specs.Annotate.{NameDepths}
+use Rattle.semantics.specs.Annotate.{NameDepths, is_array}
 use Rattle.semantics_lent.specs.Form.{Test, must, skip, fault}
-use Rattle.semantics_lent.specs.Hold.{Holds, After, spend, readable, set_aside, lending, hold_also, hold_all, arrays_in}
+use Rattle.semantics_lent.specs.Hold.{Holds, After, minus, spend, readable, set_aside, lending, hold_also, hold_all, arrays_in}
 use Rattle.semantics_lent.specs.Hold.{same_holds, none_bound}
 use Rattle.kinds.specs.declared.Atom.{Atom}
-use Rattle.kinds.specs.declared.Atom.TheVariants.{Number}
 use Rattle.machine_code.specs.Reading.{Cut, two_rows, line_at}
 use Rattle.machine_code.specs.declared.Loop.{Loop}
 use Rattle.machine_code.specs.declared.Loop.TheVariants as P
 use Rattle.machine_code.specs.declared.Line.{Line}
 use Rattle.machine_code.specs.declared.Line.TheVariants as L
 use Rattle.lent_atoms.specs.Told.{meant}
+use Rattle.lent_hold_lines.specs.declared.Function.{Function}
 use Rattle.lent_hold_lines.specs.Lines.{leaf_at, end_at}
 
 -- ---- a loop's parts
@@ -42,12 +43,31 @@ atoms_of (P.Filter p a) = meant a ∷ []
 atoms_of (P.Reduce p q s a) = meant s ∷ (meant a ∷ [])
 atoms_of (P.Rewrite p a) = meant a ∷ []
 
--- the array that it reads, or a number
-abbrev pub read_of : Loop → Atom
-read_of (P.Map p a) = a
-read_of (P.Filter p a) = a
-read_of (P.Reduce p q s a) = a
-read_of (P.Rewrite p a) = Number (pos 0)
+module _ (Γ : NameDepths) where
+  -- an atom's name, if it is an array
+  abbrev pub name_of : C.Atom → R.Option ℕ
+  name_of (C.number z) = R.None
+  name_of (C.name x) = cond (is_array Γ x) (R.Some x) R.None
+
+  -- the array that a loop reads, if it reads one
+  abbrev pub array_of : Loop → R.Option ℕ
+  array_of (P.Map p a) = name_of (meant a)
+  array_of (P.Filter p a) = name_of (meant a)
+  array_of (P.Reduce p q s a) = name_of (meant a)
+  array_of (P.Rewrite p a) = R.None
+
+-- whether it may be read, the names that are lent with it, and the holds without the one of its that is set aside
+abbrev pub may_read : R.Option ℕ → Set → Holds → Bool
+may_read R.None B H = true
+may_read (R.Some x) B H = B x || ltb 0 (H x)
+
+abbrev pub lent_with : R.Option ℕ → Set → Set
+lent_with R.None B = B
+lent_with (R.Some x) B = λ n. B n || eqb x n
+
+abbrev pub aside_of : R.Option ℕ → Set → Holds → Holds
+aside_of R.None B H = H
+aside_of (R.Some x) B H = cond (B x) H (minus x H)
 
 -- ---- lines and trees
 
@@ -129,8 +149,7 @@ module _ (kinds : List ℕ) (operands : List ℤ) (β : Borrowing) (Γ : NameDep
   tree_at zero B P H ends = fault
   tree_at (suc n) B P H ends = lines_at (tree_at n) 4096 B P H ends
 
--- code arrays cut to at most 4,096 lines, and the names of a set
-pub record Ready (kinds : List ℕ) (operands : List ℤ) (lent : List Bool) : Type 0 where
-  pub cut : Cut kinds operands
-  pub few : length kinds ≤ 4096
-  pub names : length lent ≡ 256
+-- code arrays cut to at most 4,096 lines
+pub record Ready (of : Function) : Type 0 where
+  pub cut : Cut of.kinds.now of.operands.now
+  pub few : length of.kinds.now ≤ 4096

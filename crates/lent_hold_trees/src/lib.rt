@@ -2,46 +2,67 @@
 // the trees of its lines. Form, depths and scope are right already.
 #![tactic(auto)]
 
-ghost use Rattle.std.specs.Prelude.{◌≡◌, [], ◌∷◌, ◌+◌, ◌<◌, length};
+ghost use Rattle.std.specs.Prelude.{◌≡◌, ◌+◌, ◌<◌, length};
 ghost use Rattle.semantics.specs.Kinds.{loop_hands, element_name, carried_name};
-ghost use Rattle.semantics.specs.Borrow.{borrows};
-ghost use Rattle.semantics_lent.specs.Hold.{spend, set_aside, lending, hold_all, arrays_in};
+ghost use Rattle.semantics_lent.specs.Hold.{spend, hold_all, arrays_in};
 ghost use Rattle.lent_counts.specs.Counted.{counted, set_of};
-ghost use Rattle.lent_atoms.specs.Told.{meant, depths, told};
-ghost use Rattle.lent_hold_lines.specs.Lines.{waiting, Below, Passed, Ended, asked};
-ghost use Rattle.lent_hold_trees.specs.Walk.{kind_of, names_of, atoms_of, read_of, if_at, loop_at, line_at_by};
-ghost use Rattle.lent_hold_trees.specs.Walk.{tree_at, Ready};
+ghost use Rattle.lent_atoms.specs.Told.{meant, told};
+ghost use Rattle.lent_hold_lines.specs.Lines.{depths_of, borrowed_of, waiting, Below, Passed, Ended, asked};
+ghost use Rattle.lent_hold_trees.specs.Walk.{kind_of, names_of, atoms_of, name_of, array_of, may_read, lent_with, aside_of};
+ghost use Rattle.lent_hold_trees.specs.Walk.{if_at, loop_at, line_at_by, tree_at, Ready};
 
 use kinds::Atom;
-use lent_atoms::{gain, hand_over, is_array, may_read};
-use lent_hold_lines::{NOTHING, Walked, at_fault, passed_to, pending, walk_end, walk_leaf};
+use lent_atoms::{gain, hand_over, is_array};
+use lent_form::Fault;
+use lent_hold_lines::{Asked, Function, Next, pending, walk_end, walk_leaf};
 use machine_code::{Line, Loop};
+
+// How many lines code has at most.
+const MOST_LINES: usize = 4096;
 
 // ---- the parts of a loop
 
 // What a loop hands over as it begins: a reduce's start, or the array of a map in its cell; whether it may be.
-fn hand_loop(table: &[u8], f: u8, l: Loop, holds: &mut [u16; 256]) -> bool
-    requires { length holds.old ≡ 256 }
-    ensures { (spend (depths table.now f) (loop_hands (kind_of l) (atoms_of l))
+#[tactic(auto, using(crate::proofs::Loops::hands_none))]
+fn hand_loop(of: &Function, l: Loop, holds: &mut [u16; 256]) -> bool
+    ensures { (spend (depths_of of.now) (loop_hands (kind_of l) (atoms_of l))
         (counted holds.old) ≡ told result holds.new) × (length holds.new ≡ 256) }
 {
     match l {
-        Loop::Map(_, _) => true,
-        Loop::Filter(_, _) => true,
-        Loop::Reduce(_, _, s, _) => hand_over(table, f, s, holds),
-        Loop::Rewrite(_, a) => hand_over(table, f, a, holds),
+        Loop::Map(..) | Loop::Filter(..) => true,
+        Loop::Reduce(_, _, a, _) | Loop::Rewrite(_, a) => {
+            hand_over(of.depths, of.number, a, holds)
+        }
     }
 }
 
-// The array that a loop reads; a number where it reads none.
-fn array_read(l: Loop) -> Atom
-    ensures { result ≡ read_of l }
+// An atom's name, if it is an array.
+fn array_name(of: &Function, a: Atom) -> Option<u8>
+    ensures { result ≡ name_of (depths_of of.now) (meant a) }
+{
+    match a {
+        Atom::Name(x) if is_array(of.depths, of.number, x) => Some(x),
+        _ => None,
+    }
+}
+
+// The array that a loop reads, if it reads one.
+fn array_read(of: &Function, l: Loop) -> Option<u8>
+    ensures { result ≡ array_of (depths_of of.now) l }
 {
     match l {
-        Loop::Map(_, a) => a,
-        Loop::Filter(_, a) => a,
-        Loop::Reduce(_, _, _, a) => a,
-        Loop::Rewrite(_, _) => Atom::Number(0),
+        Loop::Map(_, a) | Loop::Filter(_, a) | Loop::Reduce(_, _, _, a) => array_name(of, a),
+        Loop::Rewrite(..) => None,
+    }
+}
+
+// Whether it may be read.
+fn may_read(array: Option<u8>, lent: &[bool; 256], holds: &[u16; 256]) -> bool
+    ensures { result ≡ may_read array (set_of lent.now) (counted holds.now) }
+{
+    match array {
+        Some(x) => lent[x as usize] || 0 < holds[x as usize],
+        None => true,
     }
 }
 
@@ -50,266 +71,191 @@ fn rows_before(l: Loop) -> usize
     ensures { (result ≡ 1 + length (atoms_of l)) × (result < 4) }
 {
     match l {
-        Loop::Map(_, _) => 2,
-        Loop::Filter(_, _) => 2,
-        Loop::Reduce(_, _, _, _) => 3,
-        Loop::Rewrite(_, _) => 2,
+        Loop::Map(..) | Loop::Filter(..) | Loop::Rewrite(..) => 2,
+        Loop::Reduce(..) => 3,
     }
 }
 
 // The name of a pass that is pending as its tree begins, if it is an array.
-fn pending_in(table: &[u8], f: u8, l: Loop) -> u16
-    ensures { waiting result ≡ arrays_in (depths table.now f) (element_name (kind_of l) (names_of l)) }
+fn pending_in(of: &Function, l: Loop) -> Option<u8>
+    ensures { waiting result ≡ arrays_in (depths_of of.now) (element_name (kind_of l) (names_of l)) }
 {
     match l {
-        Loop::Map(p, _) => pending(table, f, p),
-        Loop::Filter(p, _) => pending(table, f, p),
-        Loop::Reduce(_, q, _, _) => pending(table, f, q),
-        Loop::Rewrite(p, _) => pending(table, f, p),
+        Loop::Map(x, _) | Loop::Filter(x, _) | Loop::Rewrite(x, _) | Loop::Reduce(_, x, _, _) => {
+            pending(of, x)
+        }
     }
 }
 
 // The names that are lent in the tree of a loop over an array.
-fn lent_inside(table: &[u8], f: u8, lent: &[bool; 256], a: Atom) -> [bool; 256]
-    requires { length lent.now ≡ 256 }
-    ensures { (set_of result ≡ lending (depths table.now f) (meant a ∷ []) (set_of lent.now))
-        × (length result ≡ 256) }
+#[tactic(auto, using(crate::proofs::Loops::lends_laws))]
+fn lent_inside(array: Option<u8>, lent: &[bool; 256]) -> [bool; 256]
+    ensures { (set_of result ≡ lent_with array (set_of lent.now)) × (length result ≡ 256) }
 {
     let mut inner = *lent;
-    if let Atom::Name(x) = a {
-        if is_array(table, f, x) {
-            inner[x as usize] = true;
-        }
+    if let Some(x) = array {
+        inner[x as usize] = true;
     }
     inner
 }
 
 // The holds around the tree of a loop over an array: one of the array's is set aside, if it is not lent already.
 #[tactic(auto, using(crate::proofs::Loops::aside_laws))]
-fn held_outside(table: &[u8], f: u8, lent: &[bool; 256], a: Atom, holds: &[u16; 256]) -> [u16; 256]
-    requires { (length lent.now ≡ 256) × (length holds.now ≡ 256) }
-    ensures { (counted result ≡ set_aside (depths table.now f) (set_of lent.now) (meant a ∷ [])
-        (counted holds.now)) × (length result ≡ 256) }
+fn held_outside(array: Option<u8>, lent: &[bool; 256], holds: &[u16; 256]) -> [u16; 256]
+    ensures { (counted result ≡ aside_of array (set_of lent.now) (counted holds.now))
+        × (length result ≡ 256) }
 {
     let mut outer = *holds;
-    if let Atom::Name(x) = a {
-        if !is_array(table, f, x) {
-            return outer;
-        }
-        if lent[x as usize] {
-            return outer;
-        }
-        let n = outer[x as usize];
-        if 0 < n {
-            outer[x as usize] = n - 1;
-        }
+    if let Some(x) = array
+        && !lent[x as usize]
+        && 0 < outer[x as usize]
+    {
+        outer[x as usize] -= 1;
     }
     outer
 }
 
 // The holds as a pass begins: what is carried into it holds one.
-fn held_inside(table: &[u8], f: u8, l: Loop, outer: [u16; 256], at: usize) -> [u16; 256]
-    requires { (at < 4096) × Below at outer }
-    ensures { (counted result ≡ hold_all (depths table.now f) (carried_name (kind_of l) (names_of l))
-        (counted outer)) × (length result ≡ 256) }
+fn held_inside(of: &Function, l: Loop, outer: &[u16; 256]) -> [u16; 256]
+    requires { Below 4095 outer.now }
+    ensures { (counted result ≡ hold_all (depths_of of.now) (carried_name (kind_of l) (names_of l))
+        (counted outer.now)) × (length result ≡ 256) }
 {
-    let mut begun = outer;
-    if let Loop::Reduce(p, _, _, _) = l {
-        gain(table, f, p, &mut begun);
+    let mut begun = *outer;
+    if let Loop::Reduce(x, _, _, _) = l {
+        gain(of.depths, of.number, x, &mut begun);
     }
     begun
 }
 
 // ---- trees
 
-// A function by its number, and the levels of trees that are left.
-#[derive(Clone, Copy)]
-pub struct Place {
-    pub f: u8,
-    pub levels: u64,
-}
-
 // An if: its first tree leaves no hold on a name bound in it, and its second the holds of the first.
-#[cycle(walk_if_walk_line_walk_loop_walk_tree)]
+#[cycle(trees)]
 fn walk_if(
-    kinds: &[u8],
-    operands: &[i64],
-    table: &[u8],
-    borrowed: &[[bool; 8]; 32],
-    here: Place,
+    of: &Function,
+    levels: u64,
     at: usize,
     x: u8,
     lent: &[bool; 256],
     holds: &mut [u16; 256],
-) -> Walked
-    requires { (at + 1 < length kinds.now)
-        × (Ready kinds.now operands.now lent.now × Below at holds.old) }
-    ensures { Passed (if_at (depths table.now here.f)
-        (tree_at kinds.now operands.now (borrows borrowed.now)
-        (depths table.now here.f) here.levels) x (set_of lent.now)
-        (counted holds.old) at) result holds.new }
+) -> Result<Next, Fault>
+    requires { (at + 1 < length of.now.kinds.now) × (Ready of.now × Below at holds.old) }
+    ensures { Passed (if_at (depths_of of.now)
+        (tree_at of.now.kinds.now of.now.operands.now (borrowed_of of.now) (depths_of of.now) levels)
+        x (set_of lent.now) (counted holds.old) at) result holds.new }
 {
     let mut first = *holds;
-    let a = walk_tree(
-        kinds,
-        operands,
-        table,
-        borrowed,
-        here,
+    let second = walk_tree(
+        of,
+        levels,
         at + 2,
         lent,
-        NOTHING,
-        holds,
-        true,
+        None,
+        Asked::NoneBound(holds),
         &mut first,
-    );
-    if !a.fine {
-        return a;
-    }
-    let b = walk_tree(
-        kinds, operands, table, borrowed, here, a.at, lent, NOTHING, &first, false, holds,
-    );
-    if !b.fine {
-        return b;
-    }
+    )?;
+    let line = walk_tree(of, levels, second, lent, None, Asked::Same(&first), holds)?;
     *holds = first;
-    gain(table, here.f, x, holds);
-    passed_to(b.at)
+    gain(of.depths, of.number, x, holds);
+    Ok(Next {
+        line,
+        pending: None,
+    })
 }
 
 // A loop, which its tree is lent the array of.
-#[cycle(walk_if_walk_line_walk_loop_walk_tree)]
+#[cycle(trees)]
 fn walk_loop(
-    kinds: &[u8],
-    operands: &[i64],
-    table: &[u8],
-    borrowed: &[[bool; 8]; 32],
-    here: Place,
+    of: &Function,
+    levels: u64,
     at: usize,
     x: u8,
     l: Loop,
     lent: &[bool; 256],
     holds: &mut [u16; 256],
-) -> Walked
-    requires { (at + 1 < length kinds.now)
-        × (Ready kinds.now operands.now lent.now × Below at holds.old) }
-    ensures { Passed (loop_at (depths table.now here.f)
-        (tree_at kinds.now operands.now (borrows borrowed.now)
-        (depths table.now here.f) here.levels) x l (set_of lent.now)
-        (counted holds.old) at) result holds.new }
+) -> Result<Next, Fault>
+    requires { (at + 1 < length of.now.kinds.now) × (Ready of.now × Below at holds.old) }
+    ensures { Passed (loop_at (depths_of of.now)
+        (tree_at of.now.kinds.now of.now.operands.now (borrowed_of of.now) (depths_of of.now) levels)
+        x l (set_of lent.now) (counted holds.old) at) result holds.new }
 {
-    if !hand_loop(table, here.f, l, holds) {
-        return at_fault(at);
+    let array = array_read(of, l);
+    if !hand_loop(of, l, holds) || !may_read(array, lent, holds) {
+        return Err(Fault { line: at });
     }
-    let a = array_read(l);
-    if !may_read(table, here.f, lent, holds, a) {
-        return at_fault(at);
-    }
-    let inner = lent_inside(table, here.f, lent, a);
-    let outer = held_outside(table, here.f, lent, a, holds);
-    let mut begun = held_inside(table, here.f, l, outer, at);
-    let t = walk_tree(
-        kinds,
-        operands,
-        table,
-        borrowed,
-        here,
+    let inner = lent_inside(array, lent);
+    let outer = held_outside(array, lent, holds);
+    let mut begun = held_inside(of, l, &outer);
+    let line = walk_tree(
+        of,
+        levels,
         at + rows_before(l),
         &inner,
-        pending_in(table, here.f, l),
-        &outer,
-        false,
+        pending_in(of, l),
+        Asked::Same(&outer),
         &mut begun,
-    );
-    if !t.fine {
-        return t;
-    }
-    gain(table, here.f, x, holds);
-    passed_to(t.at)
+    )?;
+    gain(of.depths, of.number, x, holds);
+    Ok(Next {
+        line,
+        pending: None,
+    })
 }
 
 // A line that is no end.
-#[cycle(walk_if_walk_line_walk_loop_walk_tree)]
+#[cycle(trees)]
 fn walk_line(
-    kinds: &[u8],
-    operands: &[i64],
-    table: &[u8],
-    borrowed: &[[bool; 8]; 32],
-    here: Place,
+    of: &Function,
+    levels: u64,
     at: usize,
     l: Line,
     lent: &[bool; 256],
-    wait: u16,
+    pending: Option<u8>,
     holds: &mut [u16; 256],
-) -> Walked
-    requires { (at + 1 < length kinds.now)
-        × (Ready kinds.now operands.now lent.now × Below at holds.old) }
-    ensures { Passed (line_at_by kinds.now operands.now (borrows borrowed.now)
-        (depths table.now here.f)
-        (tree_at kinds.now operands.now (borrows borrowed.now)
-        (depths table.now here.f) here.levels) l (set_of lent.now) (waiting wait)
-        (counted holds.old) at) result holds.new }
+) -> Result<Next, Fault>
+    requires { (at + 1 < length of.now.kinds.now) × (Ready of.now × Below at holds.old) }
+    ensures { Passed (line_at_by of.now.kinds.now of.now.operands.now (borrowed_of of.now)
+        (depths_of of.now)
+        (tree_at of.now.kinds.now of.now.operands.now (borrowed_of of.now) (depths_of of.now) levels)
+        l (set_of lent.now) (waiting pending) (counted holds.old) at) result holds.new }
 {
     match l {
-        Line::If(x, _) => walk_if(kinds, operands, table, borrowed, here, at, x, lent, holds),
-        Line::Loop(x, k) => walk_loop(
-            kinds, operands, table, borrowed, here, at, x, k, lent, holds,
-        ),
-        _ => walk_leaf(
-            kinds, operands, table, borrowed, here.f, at, l, lent, wait, holds,
-        ),
+        Line::If(x, _) => walk_if(of, levels, at, x, lent, holds),
+        Line::Loop(x, k) => walk_loop(of, levels, at, x, k, lent, holds),
+        _ => walk_leaf(of, at, l, lent, pending, holds),
     }
 }
 
-// A tree from a line on, in the function and with the levels of trees left that are given. At its end line the holds
-// are to be as wanted, or after a branch no others than before it.
-#[cycle(walk_if_walk_line_walk_loop_walk_tree)]
+// A tree from a line on, with so many levels of trees left: the line after it. At its end line the holds are as asked.
+#[cycle(trees)]
 pub fn walk_tree(
-    kinds: &[u8],
-    operands: &[i64],
-    table: &[u8],
-    borrowed: &[[bool; 8]; 32],
-    here: Place,
+    of: &Function,
+    levels: u64,
     at: usize,
     lent: &[bool; 256],
-    waits: u16,
-    wanted: &[u16; 256],
-    branch: bool,
+    pending: Option<u8>,
+    wanted: Asked,
     holds: &mut [u16; 256],
-) -> Walked
-    requires { (length wanted.now ≡ 256) × (Ready kinds.now operands.now lent.now × Below at holds.old) }
-    ensures { Ended (tree_at kinds.now operands.now (borrows borrowed.now)
-        (depths table.now here.f) here.levels (set_of lent.now) (waiting waits)
-        (counted holds.old) (asked branch (set_of lent.now) (counted wanted.now)) at)
-        result holds.new }
+) -> Result<usize, Fault>
+    requires { Ready of.now × Below at holds.old }
+    ensures { Ended (tree_at of.now.kinds.now of.now.operands.now (borrowed_of of.now) (depths_of of.now)
+        levels (set_of lent.now) (waiting pending) (counted holds.old)
+        (asked wanted.entry (set_of lent.now)) at) result holds.new }
 {
-    if here.levels == 0 {
-        return at_fault(at);
+    if levels == 0 {
+        return Err(Fault { line: at });
     }
-    let below = Place {
-        f: here.f,
-        levels: here.levels - 1,
-    };
-    let mut p = at;
-    let mut wait = waits;
-    let mut left: u64 = 4096;
-    while 0 < left {
-        if !machine_code::two_rows(kinds, operands, p) {
-            return at_fault(p);
+    let mut here = Next { line: at, pending };
+    for _ in 0..MOST_LINES {
+        if !machine_code::two_rows(of.kinds, of.operands, here.line) {
+            return Err(Fault { line: here.line });
         }
-        let l = machine_code::read_line(kinds, operands, p);
+        let l = machine_code::read_line(of.kinds, of.operands, here.line);
         if let Line::End(a) = l {
-            return walk_end(table, here.f, p, a, lent, wanted, branch, holds);
+            return walk_end(of, here.line, a, lent, wanted, holds);
         }
-        let w = walk_line(
-            kinds, operands, table, borrowed, below, p, l, lent, wait, holds,
-        );
-        if !w.fine {
-            return w;
-        }
-        p = w.at;
-        wait = w.wait;
-        left = left - 1;
+        here = walk_line(of, levels - 1, here.line, l, lent, here.pending, holds)?;
     }
-    at_fault(p)
+    Err(Fault { line: here.line })
 }

@@ -1,7 +1,7 @@
 -- One law for each way out of judging lent code.
-use Rattle.prelude.specs.Kit.{ℕ, ◌≤◌, ◌+◌, ◌<◌, ◌-◌, suc, min, arith, Bool, cond, ◌≡◌, refl, ◌∙◌}
+use Rattle.prelude.specs.Kit.{ℕ, ◌≤◌, ◌+◌, ◌<◌, suc, min, arith, Bool, cond, ◌≡◌, refl, ◌∙◌}
 use Rattle.prelude.specs.Kit.{sym, ap, subst, Option, List, [], ◌∷◌, map, ℤ, length, get_or, take, length-append}
-use Rattle.prelude.specs.Kit.{length-take, length-map}
+use Rattle.prelude.specs.Kit.{length-take, length-take-le, length-map, true, false}
 use Rattle.semantics.specs.Outcome.{Outcome, done, stop}
 use Rattle.semantics.specs.Code as C
 use Rattle.semantics.specs.Types.{Signature}
@@ -12,18 +12,18 @@ use Rattle.semantics_lent.specs.Form.{Lent, form, lent_rows, code_length, paired
 use Rattle.semantics_lent.specs.Fit.{fit, no_lent}
 use Rattle.semantics_lent.specs.Hold.{hold, lent_table}
 use Rattle.semantics_lent.specs.Calls.{lent_routines, judged_form, judged_depths, judged_holds, judged_code}
-use Rattle.lent_soundness.specs.Accepted.{Passed, passed}
+use Rattle.lent_soundness.specs.Accepted.{passed}
 use Rattle.lent_passing.specs.Functions.{parameter_row, lent_function, lent_code, FunctionsFormed}
 use Rattle.lent_passing.specs.Arities.{arity}
 use Rattle.lent_passing.specs.SaidFunctions.{Formable, form_said}
 use Rattle.lent_passing.specs.Accepts.{fits_say}
-use Rattle.machine_code.specs.Reading.{table_bytes}
+use Rattle.machine_code.specs.Reading.{Cut, table_bytes}
 use Rattle.machine_table.specs.Positions.{filled}
 use Rattle.machine_spec.specs.Machine as M
-use Rattle.lent_form.specs.declared.Formed.TheVariants as F
+use Rattle.std.specs.Prelude.{Result, Ok, Err}
+use Rattle.lent_form.specs.declared.Fault.{Fault}
+use Rattle.lent_form.specs.declared.Formed.{Formed}
 use Rattle.lent_form.specs.Starts.{lent_size, start_of, Started, Started_by, numbered, Answers}
-use Rattle.lent_fit_lines.specs.declared.Lined.{Lined}
-use Rattle.lent_fit_lines.specs.declared.Lined.TheVariants.{Next, Bad}
 use Rattle.lent_fit.specs.Functions.{code_fits, Laid, Says, all_fit, at_fault, Told}
 use Rattle.lent_fit_laws.specs.Places.{started_placed}
 use Rattle.lent_fit_laws.specs.Whole.{stands, fit_told, form_cut, paired_length}
@@ -35,7 +35,6 @@ use Rattle.lent_hold.specs.Functions.{said as told}
 use Rattle.lent_hold_laws.specs.Whole.{hold_told}
 use Rattle.lent_machine_laws.specs.Stands.{LentCoded, deliver_lent}
 use Rattle.lent_machine_laws.specs.Tables.{LentBegin, lent_coded}
-use Rattle.lent_judge.specs.declared.Judged.TheVariants as J
 use Rattle.lent_judge.specs.Judging.{lines_of, LinesFit, JudgesCode}
 
 -- ---- what the walks told
@@ -48,22 +47,21 @@ pub record InForm (kinds : List ℕ) (operands : List ℤ) (lines functions : �
   pub started : Started found starts
 
 module _ (kinds : List ℕ) (operands : List ℤ) {starts : List ℕ} where
-  pub in_form : (lines functions : ℕ) → Answers (form kinds operands) (F.Accepted lines functions) starts →
-      InForm kinds operands lines functions starts
-  in_form lines functions h = by (form kinds operands) refl h.is h.started
+  in_form : {f : Formed} → Answers (form kinds operands) (Ok f) starts →
+      InForm kinds operands f.lines f.functions starts
+  in_form {f} h = by (form kinds operands) refl h.is h.started
     where
-      by : (o : Outcome ℕ (List Lent)) → form kinds operands ≡ o → done functions lines ≡ numbered o →
-          Started_by o starts → InForm kinds operands lines functions starts
+      by : (o : Outcome ℕ (List Lent)) → form kinds operands ≡ o → done f.functions f.lines ≡ numbered o →
+          Started_by o starts → InForm kinds operands f.lines f.functions starts
       by (done gs p) e g s =
-          let same : p ≡ lines = cc in
+          let same : p ≡ f.lines = cc in
           record { found = gs; formed = e ∙ ap (done gs) same; many = cc; started = s }
       by (stop n p) e g s = absurd (let z : ◌≡◌ {A = ℕ} 0 1 = cc in omega arith)
 
-  pub not_in_form : (line : ℕ) → Answers (form kinds operands) (F.Refused line) starts →
-      form kinds operands ≡ stop 29 line
-  not_in_form line h = by (form kinds operands) h.is
+  not_in_form : {e : Fault} → Answers (form kinds operands) (Err e) starts → form kinds operands ≡ stop 29 e.line
+  not_in_form {e} h = by (form kinds operands) h.is
     where
-      by : (o : Outcome ℕ (List Lent)) → stop 29 line ≡ numbered o → o ≡ stop 29 line
+      by : (o : Outcome ℕ (List Lent)) → stop 29 e.line ≡ numbered o → o ≡ stop 29 e.line
       by (done gs p) g = absurd (let z : ◌≡◌ {A = ℕ} 0 1 = cc in omega arith)
       by (stop n p) g = cc
 
@@ -73,11 +71,11 @@ pub record Fits (o : Outcome ℕ (List NameDepths)) (q : ℕ) (table : List ℕ)
   pub fitted : o ≡ done depths q
   pub laid : Laid table depths
 
-pub fits_so : {o : Outcome ℕ (List NameDepths)} {q : ℕ} {table : List ℕ} → Says table (Next q) o → Fits o q table
+fits_so : {o : Outcome ℕ (List NameDepths)} {q : ℕ} {table : List ℕ} → Says table (Ok q) o → Fits o q table
 fits_so (all_fit Γs q laid) = record { depths = Γs; fitted = refl; laid = laid }
 
-pub fits_not : {o : Outcome ℕ (List NameDepths)} {q : ℕ} {table : List ℕ} → Says table (Bad q) o → o ≡ stop 29 q
-fits_not (at_fault q) = refl
+fits_not : {o : Outcome ℕ (List NameDepths)} {e : Fault} {table : List ℕ} → Says table (Err e) o → o ≡ stop 29 e.line
+fits_not (at_fault e) = refl
 
 -- ---- the ways out
 
@@ -109,9 +107,8 @@ unfolding judged_code
 judged_so kinds operands d {gs} {Γs} {lines} e f h =
     ap (judged_form d) e ∙ ap (judged_depths lines d gs) f ∙ ap (judged_holds lines d gs Γs) h
 
-module _ (kinds : List ℕ) (operands : List ℤ) (d : ℕ) {table table' : List ℕ} where
-  refuses : {line : ℕ} → judged_code kinds operands d ≡ stop 29 line →
-      JudgesCode kinds operands d table (J.Refused line) table'
+module _ (kinds : List ℕ) (operands : List ℤ) (d : ℕ) (table table' : List ℕ) where
+  refuses : {e : Fault} → judged_code kinds operands d ≡ stop 29 e.line → JudgesCode kinds operands d table (Err e) table'
   refuses e = record {
     is = ap lines_of (sym e);
     fit = λ P lines ok. apart (sym e ∙ ok);
@@ -120,28 +117,26 @@ module _ (kinds : List ℕ) (operands : List ℤ) (d : ℕ) {table table' : List
   }
 
   -- the first walk found a fault
-  pub refuses_form : {line : ℕ} → form kinds operands ≡ stop 29 line →
-      JudgesCode kinds operands d table (J.Refused line) table'
+  refuses_form : {e : Fault} → form kinds operands ≡ stop 29 e.line → JudgesCode kinds operands d table (Err e) table'
   unfolding judged_code
   refuses_form e = refuses (ap (judged_form d) e)
 
   -- the second
-  pub refuses_fit : {gs : List Lent} {lines line : ℕ} → form kinds operands ≡ done gs lines →
-      fit d gs ≡ stop 29 line → JudgesCode kinds operands d table (J.Refused line) table'
+  refuses_fit : {gs : List Lent} {lines : ℕ} {e : Fault} → form kinds operands ≡ done gs lines →
+      fit d gs ≡ stop 29 e.line → JudgesCode kinds operands d table (Err e) table'
   unfolding judged_code
   refuses_fit {gs} {lines} e f = refuses (ap (judged_form d) e ∙ ap (judged_depths lines d gs) f)
 
   module _ {gs : List Lent} {Γs : List NameDepths} {lines q : ℕ} (e : form kinds operands ≡ done gs lines)
       (f : fit d gs ≡ done Γs q) where
     -- the third
-    pub refuses_hold : {line : ℕ} → hold gs Γs ≡ stop 29 line →
-        JudgesCode kinds operands d table (J.Refused line) table'
+    refuses_hold : {w : Fault} → hold gs Γs ≡ stop 29 w.line → JudgesCode kinds operands d table (Err w) table'
     refuses_hold h = refuses (judged_so kinds operands d e f h)
 
     -- none: what was found is what passed
-    pub passes : {T : Table} {p : ℕ} → hold gs Γs ≡ done T p → LinesFit kinds operands lines →
+    passes : {T : Table} {p : ℕ} → hold gs Γs ≡ done T p → LinesFit kinds operands lines →
         (table_bytes ≤ length table → LentCoded gs Γs (M.code (take lines kinds) (take lines operands) table')) →
-        JudgesCode kinds operands d table (J.Passed lines) table'
+        JudgesCode kinds operands d table (Ok lines) table'
     passes {T} h fits coded = record {
       is = ap lines_of (sym (judged_so kinds operands d e f h));
       fit = λ P m ok. subst (LinesFit kinds operands) (lines_are P m ok) fits;
@@ -200,10 +195,10 @@ all_deep (g ∷ gs) (Γ ∷ Γs) h = omega (arith, all_deep gs Γs (omega (arith
 
 module _ {kinds : List ℕ} {operands : List ℤ} {lines functions : ℕ} {starts : List ℕ}
     (f : InForm kinds operands lines functions starts) where
-  pub said : Formable kinds operands f.found lines
+  said : Formable kinds operands f.found lines
   said = form_said kinds operands f.found lines f.formed
 
-  pub lines_fit : LinesFit kinds operands lines
+  lines_fit : LinesFit kinds operands lines
   unfolding lent_rows
   lines_fit =
       let n = min 4096 (code_length kinds operands) in
@@ -217,11 +212,11 @@ module _ {kinds : List ℕ} {operands : List ℤ} {lines functions : ℕ} {start
         cut = form_cut kinds operands f.found lines f.formed;
       }
 
-  pub few_functions : functions ≤ 32
+  few_functions : functions ≤ 32
   few_functions = omega (arith, f.many, said.many)
 
   -- what the second walk told
-  pub fit_so : (d : ℕ) {r : Lined} {table table' : List ℕ} →
+  fit_so : (d : ℕ) {r : Result ℕ Fault} {table table' : List ℕ} →
       Told (code_fits (take lines kinds) (take lines operands) starts d functions) r table table' →
       Told (fit d f.found) r table table'
   fit_so d {r} {table} {table'} h =
@@ -231,7 +226,7 @@ module _ {kinds : List ℕ} {operands : List ℤ} {lines functions : ℕ} {start
       f.many h)
 
   -- the table with the depths that it found, filled behind them
-  pub coded_so : (d : ℕ) {q : ℕ} {Γs : List NameDepths} {table : List ℕ} → fit d f.found ≡ done Γs q →
+  coded_so : (d : ℕ) {q : ℕ} {Γs : List NameDepths} {table : List ℕ} → fit d f.found ≡ done Γs q →
       Laid table Γs → table_bytes ≤ length table →
       LentCoded f.found Γs (M.code (take lines kinds) (take lines operands)
       (filled functions lines (take lines kinds) starts table))
@@ -245,7 +240,7 @@ module _ {kinds : List ℕ} {operands : List ℤ} {lines functions : ℕ} {start
       (λ g x l m. laid.depths g x (omega (arith, l, all_deep f.found Γs fits.many)) m))
 
   -- the table of borrowed parameters
-  pub table_so : (T : Table) → T ≡ table_at (take lines kinds) (take lines operands) starts functions →
+  table_so : (T : Table) → T ≡ table_at (take lines kinds) (take lines operands) starts functions →
       T ≡ lent_table f.found
   table_so T e = e
       ∙ ap (table_at (take lines kinds) (take lines operands) starts) f.many
@@ -257,10 +252,11 @@ module _ {kinds : List ℕ} {operands : List ℤ} {lines functions : ℕ} {start
       cut_long = omega (arith, length-take lines kinds, lines_fit.kinds_long, said.count)
 
   -- what the third walk told
-  pub hold_so : (d : ℕ) {q : ℕ} {Γs : List NameDepths} {table : List ℕ} {T : Table} (fine : Bool) (at : ℕ) →
+  hold_so : (d : ℕ) {q : ℕ} {Γs : List NameDepths} {table : List ℕ} {T : Table} (fine : Bool) (at : ℕ) →
       fit d f.found ≡ done Γs q → Laid table Γs →
       T ≡ table_at (take lines kinds) (take lines operands) starts functions →
-      functions_at (take lines kinds) (take lines operands) (borrows T) (depths table) functions 0 0 ≡ told fine at →
+      functions_at (take lines kinds) (take lines operands) (borrows T) (depths table) functions 0 0
+      ≡ cond fine (done tt at) (stop 29 at) →
       hold f.found Γs ≡ cond fine (done (lent_table f.found) at) (stop 29 at)
   hold_so d {q} {Γs} {table} {T} fine at e laid t h =
       hold_told (take lines kinds) (take lines operands) (omega (arith, length-take lines kinds, said.short)) table d
@@ -270,3 +266,71 @@ module _ {kinds : List ℕ} {operands : List ℤ} {lines functions : ℕ} {start
       (length f.found) 0 0) (sym (table_so T t))
       ∙ ap (λ (n : ℕ). functions_at (take lines kinds) (take lines operands) (borrows T) (depths table) n 0 0)
       (sym f.many) ∙ h)
+
+-- ---- the goals of judging
+
+module _ (kinds : List ℕ) (operands : List ℤ) {starts : List ℕ} where
+  pub form_refuses : (d : ℕ) (table table' : List ℕ) {e : Fault} → Answers (form kinds operands) (Err e) starts →
+      JudgesCode kinds operands d table (Err e) table'
+  form_refuses d table table' h = refuses_form kinds operands d table table' (not_in_form kinds operands h)
+
+  module _ {f : Formed} (h : Answers (form kinds operands) (Ok f) starts) where
+    formed : InForm kinds operands f.lines f.functions starts
+    formed = in_form kinds operands h
+
+    pub kinds_cut : f.lines ≡ length (take f.lines kinds)
+    kinds_cut = sym (length-take-le _ _ (lines_fit formed).kinds_long)
+
+    pub operands_cut : f.lines ≡ length (take f.lines operands)
+    operands_cut = sym (length-take-le _ _ (lines_fit formed).operands_long)
+
+    pub cut_so : Cut (take f.lines kinds) (take f.lines operands)
+    cut_so = (lines_fit formed).cut
+
+    pub few_so : (f.functions ≤ 32) × (f.lines ≤ 4096)
+    few_so = (few_functions formed, (lines_fit formed).few)
+
+    module _ (d : ℕ) (table : List ℕ) {table' : List ℕ} where
+      pub fit_refuses : {e : Fault} (table'' : List ℕ) →
+          Told (code_fits (take f.lines kinds) (take f.lines operands) starts d f.functions) (Err e) table table' →
+          JudgesCode kinds operands d table (Err e) table''
+      fit_refuses table'' t =
+          refuses_fit kinds operands d table table'' formed.formed (fits_not (fit_so formed d t).says)
+
+      module _ {q : ℕ}
+          (t : Told (code_fits (take f.lines kinds) (take f.lines operands) starts d f.functions) (Ok q) table table')
+          {T : Table} (borrowed : T ≡ table_at (take f.lines kinds) (take f.lines operands) starts f.functions) where
+        fits : Fits (fit d formed.found) q table'
+        fits = fits_so (fit_so formed d t).says
+
+        pub hold_refuses : {e : Fault} (table'' : List ℕ) →
+            functions_at (take f.lines kinds) (take f.lines operands) (borrows T) (depths table') f.functions 0 0
+            ≡ told (Err e) → JudgesCode kinds operands d table (Err e) table''
+        hold_refuses {e} table'' w =
+            refuses_hold kinds operands d table table'' formed.formed fits.fitted
+            (hold_so formed d false e.line fits.fitted fits.laid borrowed w)
+
+        pub hold_passes : {line : ℕ} (table'' : List ℕ) →
+            functions_at (take f.lines kinds) (take f.lines operands) (borrows T) (depths table') f.functions 0 0
+            ≡ told (Ok line) → table'' ≡ filled f.functions f.lines (take f.lines kinds) starts table' →
+            JudgesCode kinds operands d table (Ok f.lines) table''
+        hold_passes {line} table'' w full =
+            passes kinds operands d table table'' formed.formed fits.fitted
+            (hold_so formed d true line fits.fitted fits.laid borrowed w)
+            (lines_fit formed) (λ long.
+            subst (λ (u : List ℕ). LentCoded formed.found fits.depths
+            (M.code (take f.lines kinds) (take f.lines operands) u))
+            (sym full)
+            (coded_so formed d fits.fitted fits.laid (omega (arith, long, (fit_so formed d t).kept.long))))
+
+-- the laws of judging
+pub ruleset judge_laws = (
+  form_refuses,
+  kinds_cut,
+  operands_cut,
+  cut_so,
+  few_so,
+  fit_refuses,
+  hold_refuses,
+  hold_passes,
+)

@@ -1,2 +1,2 @@
--- The modules of `lent_judge`'s proofs.
+-- The modules of `lent_judge`'s laws.
 pub mod Laws

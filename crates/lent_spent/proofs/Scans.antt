@@ -1,5 +1,5 @@
 -- The rows of a function scanned, one after the other.
-use Rattle.prelude.specs.Kit.{ℕ, ◌≤◌, ◌+◌, ◌<◌, ◌-◌, suc, zero, arith, ℕ_discrete, true, false, Bool, ◌||◌, ◌≡◌, refl}
+use Rattle.prelude.specs.Kit.{ℕ, ◌≤◌, ◌+◌, ◌<◌, ◌-◌, suc, zero, arith, ℕ_discrete, true, false, Bool, ◌||◌, ◌≡◌, ◌≢◌, refl}
 use Rattle.prelude.specs.Kit.{◌∙◌, sym, ap, fun_ext, List, eqb, ℤ, length, get_or, set, length-set, replicate}
 use Rattle.prelude.specs.Kit.{length-replicate, get_or-set_other, get_or-set_same, ne_eqb, eq-eqb}
 use Rattle.semantics.specs.Kinds.{Borrowing}
@@ -69,21 +69,22 @@ module _ (kinds : List ℕ) (operands : List ℤ) (β : Borrowing) where
     pub long : length l ≡ 256
     pub few : i ≤ p
 
-  pub scanning_none : (from to : ℕ) → Scanning from to from 0 0 0 (replicate 256 false)
+module _ {kinds : List ℕ} {operands : List ℤ} {β : Borrowing} where
+  pub scanning_none : (from to : ℕ) → Scanning kinds operands β from to from 0 0 0 (replicate 256 false)
   scanning_none from to = record {
     same = λ m. ap (λ (b : Bool). b || spent_from kinds operands β (to - from) from 0 0 0 m) (always 256 m);
     long = length-replicate 256 false;
     few = omega arith;
   }
 
-  module _ {from to p k g i : ℕ} {l : List Bool} (s : Scanning from to p k g i l) where
+  module _ {from to p k g i : ℕ} {l : List Bool} (s : Scanning kinds operands β from to p k g i l) where
     pub scanning_all : to ≤ p → (set_of l ≡ spent_from kinds operands β (to - from) from 0 0 0)
     scanning_all h =
         fun_ext (λ m. sym (or_false (set_of l m)) ∙ ap (λ (b : Bool). set_of l m || b) (sym (nothing m)) ∙
         s.same m)
       where
         shut : (m : ℕ) → spent_from kinds operands β 0 p k g i m ≡ false
-        shut m = zero_rows p k g i m
+        shut m = zero_rows kinds operands β p k g i m
 
         nothing : (m : ℕ) → spent_from kinds operands β (to - p) p k g i m ≡ false
         nothing m =
@@ -98,10 +99,10 @@ module _ (kinds : List ℕ) (operands : List ℤ) (β : Borrowing) where
           ≡ spent_from kinds operands β (suc (to - (p + 1))) p k g i m
       at_size m = ap (λ (n : ℕ). spent_from kinds operands β n p k g i m) size
 
-      pub scanning_number : get_or kinds p 0 ≡ 2 → Scanning from to (p + 1) k g (i + 1) l
+      pub scanning_number : get_or kinds p 0 ≡ 2 → Scanning kinds operands β from to (p + 1) k g (i + 1) l
       scanning_number e = record {
         same = λ m. ap (λ (b : Bool). set_of l m || b)
-            (sym (at_size m ∙ ap (λ (S : Set). S m) (at_number (to - (p + 1)) p k g i e))) ∙ s.same m;
+            (sym (at_size m ∙ ap (λ (S : Set). S m) (at_number kinds operands β (to - (p + 1)) p k g i e))) ∙ s.same m;
         long = s.long;
         few = omega (arith, s.few);
       }
@@ -111,7 +112,7 @@ module _ (kinds : List ℕ) (operands : List ℤ) (β : Borrowing) where
           ((m : ℕ) → spent_from kinds operands β (suc (to - (p + 1))) p k g i m ≡ (name_if b x m || S m)) →
           ((m : ℕ) → S m ≡ spent_from kinds operands β (to - (p + 1)) (p + 1) k' g' i' m) → i' ≤ p + 1 →
           (r : List Bool) → length r ≡ 256 → ((m : ℕ) → set_of r m ≡ (set_of l m || name_if b x m)) →
-          Scanning from to (p + 1) k' g' i' r
+          Scanning kinds operands β from to (p + 1) k' g' i' r
       with_mark x b S k' g' i' e f w r h q = record {
         same = λ m. ap (λ (t : Bool). t || spent_from kinds operands β (to - (p + 1)) (p + 1) k' g' i' m) (q m)
             ∙ or_assoc (set_of l m) (name_if b x m) _
@@ -121,49 +122,43 @@ module _ (kinds : List ℕ) (operands : List ℤ) (β : Borrowing) where
         few = w;
       }
 
-      module _ (not_number : get_or kinds p 0 ≡ 2 → ⊥) (name : get_or kinds p 0 ≡ 3) (b : Bool)
-          (so : b ≡ is_handed β k g i) where
+      module _ (name : get_or kinds p 0 ≡ 3) (b : Bool) (so : b ≡ is_handed β k g i) where
         named : (m : ℕ) → spent_from kinds operands β (suc (to - (p + 1))) p k g i m
             ≡ (name_if b (name_at operands p) m || spent_from kinds operands β (to - (p + 1)) (p + 1) k g (i + 1) m)
-        named m = at_name (to - (p + 1)) p k g i not_number name m
+        named m = at_name kinds operands β (to - (p + 1)) p k g i (omega (arith, name)) name m
             ∙ ap (λ (t : Bool). name_if t (name_at operands p) m
             || spent_from kinds operands β (to - (p + 1)) (p + 1) k g (i + 1) m) (sym so)
 
-        pub scanning_name : (x : ℕ) → x ≡ name_at operands p → x < 256 → b ≡ true →
-            Scanning from to (p + 1) k g (i + 1) (set l x true)
-        scanning_name x e h t =
-            with_mark (name_at operands p) b _ k g (i + 1) named (λ m. refl) (omega (arith, s.few)) (set l x true)
-            (simp length-set s.long)
-            (λ m. marked l x m (omega (arith, h, s.long)) ∙ rw (t, e) refl)
+      pub scanning_name : {x : ℕ} → get_or kinds p 0 ≡ 3 → true ≡ is_handed β k g i → x ≡ name_at operands p → x < 256 →
+          Scanning kinds operands β from to (p + 1) k g (i + 1) (set l x true)
+      scanning_name {x} name so e h =
+          with_mark (name_at operands p) true _ k g (i + 1) (named name true so) (λ m. refl) (omega (arith, s.few))
+          (set l x true) (simp length-set s.long)
+          (λ m. marked l x m (omega (arith, h, s.long)) ∙ rw e refl)
 
-        pub scanning_kept : b ≡ false → Scanning from to (p + 1) k g (i + 1) l
-        scanning_kept t =
-            with_mark (name_at operands p) b _ k g (i + 1) named (λ m. refl) (omega (arith, s.few)) l s.long
-            (λ m. rw t (sym (or_false (set_of l m))))
+      pub scanning_kept : get_or kinds p 0 ≡ 3 → false ≡ is_handed β k g i →
+          Scanning kinds operands β from to (p + 1) k g (i + 1) l
+      scanning_kept name so =
+          with_mark (name_at operands p) false _ k g (i + 1) (named name false so) (λ m. refl) (omega (arith, s.few))
+          l s.long (λ m. sym (or_false (set_of l m)))
 
-      module _ (not_number : get_or kinds p 0 ≡ 2 → ⊥) (not_name : get_or kinds p 0 ≡ 3 → ⊥) (kind y : ℕ)
-          (is : kind ≡ get_or kinds p 0) (second : y ≡ second_at operands p) (b : Bool) (so : b ≡ is_named kind) where
-        lined : (m : ℕ) → spent_from kinds operands β (suc (to - (p + 1))) p k g i m
+      module _ {kind y : ℕ} (is : kind ≡ get_or kinds p 0) (line : kind ≢ 2) (line' : kind ≢ 3)
+          (second : y ≡ second_at operands p) where
+        lined : (b : Bool) → b ≡ is_named kind → (m : ℕ) →
+            spent_from kinds operands β (suc (to - (p + 1))) p k g i m
             ≡ (name_if b (name_at operands p) m || spent_from kinds operands β (to - (p + 1)) (p + 1) kind y 0 m)
-        lined m = at_line (to - (p + 1)) p k g i not_number not_name m ∙ rw (← is, ← second, ← so) refl
+        lined b so m =
+            at_line kinds operands β (to - (p + 1)) p k g i (omega (arith, is, line)) (omega (arith, is, line')) m
+            ∙ rw (← is, ← second, ← so) refl
 
-        pub scanning_line : (x : ℕ) → x ≡ name_at operands p → x < 256 → b ≡ true →
-            Scanning from to (p + 1) kind y 0 (set l x true)
-        scanning_line x e h t =
-            with_mark (name_at operands p) b _ kind y 0 lined (λ m. refl) (omega arith) (set l x true)
+        pub scanning_line : {x : ℕ} → true ≡ is_named kind → x ≡ name_at operands p → x < 256 →
+            Scanning kinds operands β from to (p + 1) kind y 0 (set l x true)
+        scanning_line {x} so e h =
+            with_mark (name_at operands p) true _ kind y 0 (lined true so) (λ m. refl) (omega arith) (set l x true)
             (simp length-set s.long)
-            (λ m. marked l x m (omega (arith, h, s.long)) ∙ rw (t, e) refl)
+            (λ m. marked l x m (omega (arith, h, s.long)) ∙ rw e refl)
 
-        pub scanning_other : b ≡ false → Scanning from to (p + 1) kind y 0 l
-        scanning_other t =
-            with_mark (name_at operands p) b _ kind y 0 lined (λ m. refl) (omega arith) l s.long
-            (λ m. rw t (sym (or_false (set_of l m))))
-
--- ---- kinds
-
-pub named_none : (k : ℕ) → (k ≡ 14 → ⊥) → (k ≡ 15 → ⊥) → false ≡ is_named k
-named_none k a b = rw (ne_eqb k 14 a, ne_eqb k 15 b) refl
-
-pub handed_none : (β : Borrowing) (k g i : ℕ) → (k ≡ 8 → ⊥) → (k ≡ 9 → ⊥) → (k ≡ 16 → ⊥) → (k ≡ 20 → ⊥) →
-    (k ≡ 21 → ⊥) → false ≡ is_handed β k g i
-handed_none β k g i a b c d e = rw (ne_eqb k 8 a, ne_eqb k 9 b, ne_eqb k 16 c, ne_eqb k 20 d, ne_eqb k 21 e) refl
+        pub scanning_other : false ≡ is_named kind → Scanning kinds operands β from to (p + 1) kind y 0 l
+        scanning_other so =
+            with_mark (name_at operands p) false _ kind y 0 (lined false so) (λ m. refl) (omega arith) l s.long
+            (λ m. sym (or_false (set_of l m)))

@@ -12,10 +12,8 @@ fn is_handed(borrowed: &[[bool; 8]; 32], kind: u8, g: u8, i: usize) -> bool
 {
     match kind {
         kinds::CALL => !plain_rows::is_borrowed(borrowed, g, i),
-        kinds::LITERAL => true,
-        kinds::END => true,
+        kinds::LITERAL | kinds::END | kinds::REWRITE => true,
         kinds::REDUCE => i == 0,
-        kinds::REWRITE => true,
         _ => false,
     }
 }
@@ -24,18 +22,14 @@ fn is_handed(borrowed: &[[bool; 8]; 32], kind: u8, g: u8, i: usize) -> bool
 fn is_named(kind: u8) -> bool
     ensures { result ≡ is_named kind }
 {
-    match kind {
-        kinds::RETAIN => true,
-        kinds::RELEASE => true,
-        _ => false,
-    }
+    matches!(kind, kinds::RETAIN | kinds::RELEASE)
 }
 
 // The second byte of the operand at a position.
 fn second_at(operands: &[i64], at: usize) -> u8
     ensures { result ≡ second_at operands.now at }
 {
-    (machine_code::low_bits(machine_code::operand_at(operands, at)) / 256 % 256) as u8
+    (machine_code::low_bits(words::get_or(operands, at, 0)) / 256 % 256) as u8
 }
 
 // The names that the rows from one line to before another spend or retain.
@@ -54,28 +48,24 @@ pub fn spent_in(
     let mut line: u8 = 0;
     let mut g: u8 = 0;
     let mut i: usize = 0;
-    let mut p = from;
-    while p < to {
-        let kind = machine_code::kind_at(kinds, p);
-        let at = p;
-        p = p + 1;
-        if kind == kinds::NUMBER {
-            i = i + 1;
-            continue;
-        }
-        if kind == kinds::NAME {
-            let handed = is_handed(borrowed, line, g, i);
-            i = i + 1;
-            if handed {
-                spent[machine_code::name_at(operands, at) as usize] = true;
+    for p in from..to {
+        let kind = words::get_or(kinds, p, 0);
+        match kind {
+            kinds::NUMBER => i += 1,
+            kinds::NAME => {
+                if is_handed(borrowed, line, g, i) {
+                    spent[machine_code::name_at(operands, p) as usize] = true;
+                }
+                i += 1;
             }
-            continue;
-        }
-        line = kind;
-        g = second_at(operands, at);
-        i = 0;
-        if is_named(kind) {
-            spent[machine_code::name_at(operands, at) as usize] = true;
+            _ => {
+                line = kind;
+                g = second_at(operands, p);
+                i = 0;
+                if is_named(kind) {
+                    spent[machine_code::name_at(operands, p) as usize] = true;
+                }
+            }
         }
     }
     spent

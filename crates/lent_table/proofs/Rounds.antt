@@ -1,7 +1,7 @@
 -- The rounds of the table, and the ways out of the functions that work them.
-use Rattle.prelude.specs.Kit.{ℕ, ◌≤◌, ◌+◌, ◌<◌, ◌-◌, suc, zero, min, arith, true, false, Bool, cond, ◌&&◌, not}
-use Rattle.prelude.specs.Kit.{and-false, ◌≡◌, refl, ◌∙◌, sym, ap, fun_ext, List, [], ◌∷◌, eqb, ltb, ℤ, length, get_or}
-use Rattle.prelude.specs.Kit.{get_or-eq_default, replicate, ne_eqb, lt-ltb, eq-eqb, le-ltb}
+use Rattle.prelude.specs.Kit.{ℕ, ◌≤◌, ◌+◌, ◌<◌, ◌-◌, suc, zero, arith, true, false, Bool, cond, ◌&&◌, not}
+use Rattle.prelude.specs.Kit.{and-false, ◌≡◌, ◌≢◌, refl, ◌∙◌, sym, ap, fun_ext, List, [], eqb, ltb, ℤ, length, get_or}
+use Rattle.prelude.specs.Kit.{replicate, ne_eqb, lt-ltb, eq-eqb, le-ltb}
 use Rattle.laws.specs.Lists.{tabulate_length, tabulate_at}
 use Rattle.semantics.specs.Basics.{tabulate}
 use Rattle.semantics.specs.Live.{Set}
@@ -9,42 +9,15 @@ use Rattle.semantics.specs.Borrow.{Table, borrows, all_borrowed, same_table}
 use Rattle.machine_code.specs.Reading.{name_at}
 use Rattle.lent_spent.specs.Scan.{set_of, spent_from}
 use Rattle.lent_table.specs.Rounds.{Shaped, worked, start_at, end_at, parameter_in, spent_by, stays, reworked_at}
-use Rattle.lent_table.specs.Rounds.{table_at, SamePast}
+use Rattle.lent_table.specs.Rounds.{table_at}
 use Rattle.lent_table.proofs.Tables.{filled_whole}
-
--- ---- lines of functions
-
-module _ (starts : List ℕ) (f : ℕ) (long : length starts ≡ 32) where
-  pub start_past : 32 ≤ f → (4096 ≡ start_at starts f) × (4096 ≤ 4096)
-  start_past h =
-      let e : get_or starts f 4096 ≡ 4096 = get_or-eq_default starts 4096 (omega (arith, h, long)) in
-      (omega (arith, e), omega arith)
-
-  pub start_there : f < 32 → (r : ℕ) → r ≡ min 4096 (get_or starts f 0) → (r ≡ start_at starts f) × (r ≤ 4096)
-  start_there h r e = (omega (arith, e, any starts f (omega (arith, h, long))), omega (arith, e))
-    where
-      any : (l : List ℕ) (i : ℕ) → i < length l → get_or l i 4096 ≡ get_or l i 0
-      any [] i q = absurd (let z : ⊥ = omega (arith, q) in z)
-      any (x ∷ l) zero q = refl
-      any (x ∷ l) (suc i) q = any l i (omega (arith, q))
 
 -- ---- a parameter
 
-pub not_there : (operands : List ℤ) (S : Set) (at i c : ℕ) → c ≡ name_at operands at → c ≤ i →
-    false ≡ parameter_in operands S at i
-not_there operands S at i c e h = rw (← e, le-ltb i c h) refl
-
-pub there : (operands : List ℤ) (S : Set) (at i c x : ℕ) → c ≡ name_at operands at → i < c →
-    x ≡ name_at operands (at + 1 + i) → S x ≡ parameter_in operands S at i
-there operands S at i c x e h g = rw (← e, lt-ltb i c h) (ap S g)
-
-pub stay_main : (b c : Bool) (f : ℕ) → f ≡ 0 → false ≡ (b && (not (eqb f 0) && not c))
+stay_main : (b c : Bool) (f : ℕ) → f ≡ 0 → false ≡ (b && (not (eqb f 0) && not c))
 stay_main b c f e = rw (eq-eqb f 0 e) (sym (and-false b))
 
-pub stay_spent : (b c : Bool) (f : ℕ) → (f ≡ 0 → ⊥) → c ≡ true → false ≡ (b && (not (eqb f 0) && not c))
-stay_spent b c f d e = rw (ne_eqb f 0 d, e) (sym (and-false b))
-
-pub stay_kept : (b c : Bool) (f : ℕ) → (f ≡ 0 → ⊥) → c ≡ false → b ≡ (b && (not (eqb f 0) && not c))
+stay_kept : (b c : Bool) (f : ℕ) → f ≢ 0 → c ≡ false → b ≡ (b && (not (eqb f 0) && not c))
 stay_kept b c f d e = rw (ne_eqb f 0 d, e) (and_so b)
   where
     and_so : (b : Bool) → b ≡ (b && true)
@@ -69,15 +42,6 @@ module _ (kinds : List ℕ) (operands : List ℤ) (starts : List ℕ) (functions
       S ≡ spent_by kinds operands starts functions T f
   unfolding spent_by
   spent_so h at c to a b e S s = rw (lt-ltb f functions h, ← a, ← b, ← e) s
-
-  -- an entry that is worked out by the names that its function spends
-  pub entry_so : (at : ℕ) → at ≡ start_at starts f → (S : Set) → S ≡ spent_by kinds operands starts functions T f →
-      (i : ℕ) (v : Bool) → v ≡ (borrows T f i && (not (eqb f 0) && not (parameter_in operands S at i))) →
-      v ≡ stays kinds operands starts functions T f i
-  entry_so at a S s i v e =
-      e ∙ ap (λ (X : Set). borrows T f i && (not (eqb f 0) && not (parameter_in operands X at i))) s
-      ∙ ap (λ (p : ℕ). borrows T f i
-      && (not (eqb f 0) && not (parameter_in operands (spent_by kinds operands starts functions T f) p i))) a
 
   past_none : functions ≤ f → (i : ℕ) →
       parameter_in operands (spent_by kinds operands starts functions T f) (start_at starts f) i ≡ false
@@ -132,22 +96,9 @@ module _ (kinds : List ℕ) (operands : List ℤ) (starts : List ℕ) (functions
   abbrev round : Table → Table
   round = reworked_at kinds operands starts functions
 
-  pub reworked_shaped : (T : Table) → Shaped (round T)
+  reworked_shaped : (T : Table) → Shaped (round T)
   unfolding reworked_at
   reworked_shaped T = tabled_shaped (stays kinds operands starts functions T)
-
-  pub round_shaped : (T U : Table) → U ≡ round T → Shaped U
-  round_shaped T U e = rw e (reworked_shaped T)
-
-  pub round_past : (T U : Table) → Shaped T → U ≡ round T → SamePast functions T U
-  unfolding reworked_at
-  round_past T U s e = record {
-    past = λ f p h l.
-        row_kept kinds operands starts functions T f s p h l
-        ∙ sym (ap (λ (X : Table). get_or X f []) e
-        ∙ tabulate_at 32 0 (λ g. tabulate 0 8 (stays kinds operands starts functions T g)) f [] l
-        ∙ ap (λ g. tabulate 0 8 (stays kinds operands starts functions T g)) (let z : 0 + f ≡ f = omega arith in z));
-  }
 
   -- with so many rounds left a table leads to the one that is sought
   pub record Working (left : ℕ) (T : Table) : Type 0 where

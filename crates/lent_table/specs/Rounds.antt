@@ -1,6 +1,6 @@
 -- The table of borrowed parameters by positions, for rows of any content. Where the rows of functions stand it is
 -- `lent_table`.
-use Rattle.std.specs.Prelude.{◌≡◌, Bool, cond, not, ◌&&◌, List, [], ℕ, zero, suc, ◌+◌, ◌-◌, ◌<◌, ◌≤◌, min, ℤ, eqb, ltb, get_or, length}
+use Rattle.std.specs.Prelude.{◌≡◌, Bool, cond, not, ◌&&◌, List, [], ℕ, zero, suc, ◌+◌, ◌-◌, ◌<◌, min, ℤ, eqb, ltb, get_or, length}
 use Rattle.semantics.specs.Basics.{tabulate}
 use Rattle.semantics.specs.Live.{Set, empty}
 use Rattle.semantics.specs.Borrow.{Table, borrows, all_borrowed, same_table}
@@ -11,10 +11,6 @@ use Rattle.lent_spent.specs.Scan.{spent_from}
 pub record Shaped (T : Table) : Type 0 where
   pub rows : length T ≡ 32
   pub columns : (f : ℕ) → f < 32 → length (get_or T f []) ≡ 8
-
--- two tables with the same rows past the last of so many functions; main's is not among them
-pub record SamePast (functions : ℕ) (T U : Table) : Type 0 where
-  pub past : (f : ℕ) → 0 < f → functions ≤ f → f < 32 → get_or T f [] ≡ get_or U f []
 
 -- at most n rounds, until one changes nothing
 unfoldable pub worked : (Table → Table) → ℕ → Table → Table

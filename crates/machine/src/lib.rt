@@ -7,19 +7,20 @@ ghost use Rattle.std.specs.Prelude.{◌≡◌, ◌<◌, length};
 ghost use Rattle.semantics.specs.Words.{store_of};
 ghost use Rattle.machine_frames.specs.Frames.{frame_words};
 ghost use Rattle.machine_code.specs.Reading.{Cut};
-ghost use Rattle.machine_frames.specs.Work.{memory};
+ghost use Rattle.machine_frames.specs.Work.{memory, shown};
 ghost use Rattle.machine_lines.specs.Lines.{kind_of, first_name, second_name, atoms_of};
 ghost use Rattle.machine_loops.specs.Loops.{Usable};
 ghost use Rattle.machine_spec.specs.Machine.{code, Ended, if_line, call_line, loop_line, looped, passes_on};
 ghost use Rattle.machine_spec.specs.Machine.{line_on, tree_on, call_on};
 
+use answers::Stop;
 use kinds::Atom;
 use machine_code::{Line, Loop, MOST_LINES, TABLE_BYTES};
-use machine_frames::{FRAME_WORDS, Out};
-use machine_loops::{Begun, Next, Passes};
+use machine_frames::{Done, FRAME_WORDS, Halted};
+use machine_loops::Passes;
 
 // Works the tree at a position.
-#[cycle(work_call_work_if_work_line_work_loop_work_pass_work_tree)]
+#[cycle(workers)]
 pub fn work_tree(
     kinds: &&[u8],
     operands: &&[i64],
@@ -31,58 +32,36 @@ pub fn work_tree(
     lines: u64,
     calls: usize,
     at: usize,
-) -> Out
+) -> Result<Done, Halted>
     requires { (calls < 32) × (length env.old ≡ frame_words) × Cut kinds.now.now operands.now.now }
     ensures { Ended (tree_on lines
         (call_on calls (code kinds.now.now operands.now.now table.now))
         (code kinds.now.now operands.now.now table.now) calls at steps
         (memory (store_of slots.old heads.old) env.old))
-        steps result slots.new heads.new env.new }
+        steps (shown result) slots.new heads.new env.new }
 {
     let mut p = at;
     let mut s = steps;
-    let mut left = lines;
-    while 0 < left {
+    for left in (0..lines).rev() {
         if !machine_code::two_rows(*kinds, *operands, p) {
-            return machine_frames::halted(machine_frames::NO_LINE, s);
+            return machine_frames::lost(s);
         }
         let l = machine_code::line_at(*kinds, *operands, p);
         if let Line::End(a) = l {
             let w = machine_frames::word_of(env, calls, a);
-            return machine_frames::done(w, p + 2, s);
+            return machine_frames::go_on(w, p + 2, s);
         }
-        let r = work_line(
-            kinds,
-            operands,
-            table,
-            slots,
-            heads,
-            env,
-            s,
-            left - 1,
-            calls,
-            p,
-            l,
-        );
-        let stop = r.stop;
-        if stop != 0 {
-            // field by field: a copy of r keeps the bytes between its fields too, in each frame
-            return Out {
-                stop,
-                value: r.value,
-                next: r.next,
-                steps: r.steps,
-            };
-        }
-        p = r.next;
-        s = r.steps;
-        left = left - 1;
+        let given = work_line(
+            kinds, operands, table, slots, heads, env, s, left, calls, p, l,
+        )?;
+        p = given.next;
+        s = given.steps;
     }
-    machine_frames::halted(machine_frames::NO_LINE, s)
+    machine_frames::lost(s)
 }
 
 // Works a line that stands at a position.
-#[cycle(work_call_work_if_work_line_work_loop_work_pass_work_tree)]
+#[cycle(workers)]
 fn work_line(
     kinds: &&[u8],
     operands: &&[i64],
@@ -95,7 +74,7 @@ fn work_line(
     calls: usize,
     at: usize,
     l: Line,
-) -> Out
+) -> Result<Done, Halted>
     requires { (at < length kinds.now.now) × (calls < 32) × (length env.old ≡ frame_words)
         × Cut kinds.now.now operands.now.now }
     ensures { Ended (line_on
@@ -105,7 +84,7 @@ fn work_line(
         (call_on calls (code kinds.now.now operands.now.now table.now))
         (code kinds.now.now operands.now.now table.now) calls at steps
         (memory (store_of slots.old heads.old) env.old) l)
-        steps result slots.new heads.new env.new }
+        steps (shown result) slots.new heads.new env.new }
 {
     match l {
         Line::If(x, g) => work_if(
@@ -124,7 +103,7 @@ fn work_line(
 }
 
 // Works one tree of an if, whose guard is 1 or 0.
-#[cycle(work_call_work_if_work_line_work_loop_work_pass_work_tree)]
+#[cycle(workers)]
 fn work_if(
     kinds: &&[u8],
     operands: &&[i64],
@@ -138,7 +117,7 @@ fn work_if(
     at: usize,
     x: u8,
     g: Atom,
-) -> Out
+) -> Result<Done, Halted>
     requires { (at < length kinds.now.now) × (calls < 32) × (length env.old ≡ frame_words)
         × Cut kinds.now.now operands.now.now }
     ensures { Ended (if_line
@@ -147,17 +126,17 @@ fn work_if(
         (code kinds.now.now operands.now.now table.now) calls)
         table.now calls x g at steps
         (memory (store_of slots.old heads.old) env.old))
-        steps result slots.new heads.new env.new }
+        steps (shown result) slots.new heads.new env.new }
 {
     if steps == 0 {
-        return machine_frames::halted(answers::OUT_OF_STEPS, steps);
+        return machine_frames::halt(Stop::OutOfSteps, steps);
     }
     let guard = machine_frames::word_of(env, calls, g);
     if !machine_frames::guards::is_answer(guard) {
-        return machine_frames::halted(answers::BAD_GUARD, steps - 1);
+        return machine_frames::halt(Stop::BadGuard, steps - 1);
     }
     let start = machine_frames::guards::branch_start(table, guard, at + 2);
-    let r = work_tree(
+    let given = work_tree(
         kinds,
         operands,
         table,
@@ -168,19 +147,14 @@ fn work_if(
         lines,
         calls,
         start,
-    );
-    let stop = r.stop;
-    if stop != 0 {
-        return r;
-    }
-    let w = r.value;
-    let next = machine_frames::guards::branch_end(table, guard, r.next);
-    machine_frames::bind(env, calls, x, w);
-    machine_frames::done(w, next, r.steps)
+    )?;
+    let next = machine_frames::guards::branch_end(table, guard, given.next);
+    machine_frames::bind(env, calls, x, given.value);
+    machine_frames::go_on(given.value, next, given.steps)
 }
 
 // Works the tree of a function that is called.
-#[cycle(work_call_work_if_work_line_work_loop_work_pass_work_tree)]
+#[cycle(workers)]
 fn work_call(
     kinds: &&[u8],
     operands: &&[i64],
@@ -193,27 +167,27 @@ fn work_call(
     at: usize,
     x: u8,
     g: u8,
-) -> Out
+) -> Result<Done, Halted>
     requires { (at < length kinds.now.now) × (calls < 32) × (length env.old ≡ frame_words)
         × Cut kinds.now.now operands.now.now }
     ensures { Ended (call_line
         (call_on calls (code kinds.now.now operands.now.now table.now))
         (code kinds.now.now operands.now.now table.now) calls x g at steps
         (memory (store_of slots.old heads.old) env.old))
-        steps result slots.new heads.new env.new }
+        steps (shown result) slots.new heads.new env.new }
 {
     if steps == 0 {
-        return machine_frames::halted(answers::OUT_OF_STEPS, steps);
+        return machine_frames::halt(Stop::OutOfSteps, steps);
     }
     if calls == 0 {
-        return machine_frames::halted(answers::CALL_TOO_DEEP, steps - 1);
+        return machine_frames::halt(Stop::CallTooDeep, steps - 1);
     }
     let below = calls - 1;
     let head = machine_code::start_in(table, g);
     let n = machine_code::name_at(*operands, head) as usize;
     machine_frames::pass_arguments(*kinds, *operands, env, calls, at + 1, head + 1, n);
     machine_frames::set_function(env, below, g);
-    let r = work_tree(
+    let given = work_tree(
         kinds,
         operands,
         table,
@@ -224,18 +198,13 @@ fn work_call(
         MOST_LINES,
         below,
         head + 1 + n,
-    );
-    let stop = r.stop;
-    if stop != 0 {
-        return r;
-    }
-    let w = r.value;
-    machine_frames::bind(env, calls, x, w);
-    machine_frames::done(w, at + 1 + n, r.steps)
+    )?;
+    machine_frames::bind(env, calls, x, given.value);
+    machine_frames::go_on(given.value, at + 1 + n, given.steps)
 }
 
 // Works a loop: what it begins with, its passes, and what it ends with.
-#[cycle(work_call_work_if_work_line_work_loop_work_pass_work_tree)]
+#[cycle(workers)]
 fn work_loop(
     kinds: &&[u8],
     operands: &&[i64],
@@ -249,7 +218,7 @@ fn work_loop(
     at: usize,
     x: u8,
     l: Loop,
-) -> Out
+) -> Result<Done, Halted>
     requires { (at < length kinds.now.now) × (calls < 32) × (length env.old ≡ frame_words)
         × Cut kinds.now.now operands.now.now }
     ensures { Ended (loop_line
@@ -259,36 +228,34 @@ fn work_loop(
         (code kinds.now.now operands.now.now table.now) calls x (kind_of l)
         (first_name l) (second_name l) (atoms_of l) at steps
         (memory (store_of slots.old heads.old) env.old))
-        steps result slots.new heads.new env.new }
+        steps (shown result) slots.new heads.new env.new }
 {
     if steps == 0 {
-        return machine_frames::halted(answers::OUT_OF_STEPS, steps);
+        return machine_frames::halt(Stop::OutOfSteps, steps);
     }
-    match machine_loops::begin_loop(table, slots, heads, env, calls, x, l) {
-        Begun::Ready(passes) => {
-            let start = at + machine_loops::rows_before(l);
-            let r = work_pass(
-                kinds,
-                operands,
-                table,
-                slots,
-                heads,
-                env,
-                steps - 1,
-                lines,
-                calls,
-                start,
-                passes,
-            );
-            let next = machine_code::end_in(table, start);
-            machine_loops::end_loop(slots, heads, env, calls, x, passes, r, next)
-        }
-        Begun::NoneFree => machine_frames::halted(answers::OUT_OF_CELLS, steps - 1),
-    }
+    let Some(passes) = machine_loops::begin_loop(table, slots, heads, env, calls, x, l) else {
+        return machine_frames::halt(Stop::OutOfCells, steps - 1);
+    };
+    let start = at + machine_loops::rows_before(l);
+    let r = work_pass(
+        kinds,
+        operands,
+        table,
+        slots,
+        heads,
+        env,
+        steps - 1,
+        lines,
+        calls,
+        start,
+        passes,
+    );
+    let next = machine_code::end_in(table, start);
+    machine_loops::end_loop(slots, heads, env, calls, x, passes, r, next)
 }
 
 // Works a loop's tree, at a position, once for each element. What a pass carries on is carried into the next.
-#[cycle(work_call_work_if_work_line_work_loop_work_pass_work_tree)]
+#[cycle(workers)]
 fn work_pass(
     kinds: &&[u8],
     operands: &&[i64],
@@ -301,7 +268,7 @@ fn work_pass(
     calls: usize,
     at: usize,
     l: Passes,
-) -> Out
+) -> Result<Done, Halted>
     requires { (calls < 32) × (length env.old ≡ frame_words) × Cut kinds.now.now operands.now.now
         × Usable slots.old heads.old l }
     ensures { Ended (passes_on (looped l.way
@@ -310,18 +277,16 @@ fn work_pass(
         (code kinds.now.now operands.now.now table.now) calls at)
         calls l.first l.second l.from) l.count l.carried 0 steps
         (memory (store_of slots.old heads.old) env.old))
-        steps result slots.new heads.new env.new }
+        steps (shown result) slots.new heads.new env.new }
 {
-    let count = l.count;
     let mut v = l.carried;
     let mut s = steps;
-    let mut i: usize = 0;
-    while i < count {
+    for i in 0..l.count {
         if s == 0 {
-            return machine_frames::halted(answers::OUT_OF_STEPS, s);
+            return machine_frames::halt(Stop::OutOfSteps, s);
         }
         machine_loops::begin_pass(slots, heads, env, calls, l, v, i);
-        let r = work_tree(
+        let given = work_tree(
             kinds,
             operands,
             table,
@@ -332,19 +297,13 @@ fn work_pass(
             lines,
             calls,
             at,
-        );
-        let stop = r.stop;
-        if stop != 0 {
-            return r;
-        }
-        let next = machine_loops::end_pass(slots, heads, env, calls, l, v, i, r.value);
-        let Next::Word(u) = next else {
-            return machine_frames::halted(answers::BAD_GUARD, r.steps);
+        )?;
+        let carried = machine_loops::end_pass(slots, heads, env, calls, l, v, i, given.value);
+        let Some(u) = carried else {
+            return machine_frames::halt(Stop::BadGuard, given.steps);
         };
         v = u;
-        let rest = r.steps;
-        s = rest;
-        i = i + 1;
+        s = given.steps;
     }
-    machine_frames::done(v, 0, s)
+    machine_frames::go_on(v, 0, s)
 }

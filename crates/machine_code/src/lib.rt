@@ -47,20 +47,6 @@ pub const STARTS: usize = 8192;
 
 pub const ENDS: usize = 8256;
 
-// The kind at a position.
-pub fn kind_at(kinds: &[u8], at: usize) -> u8
-    ensures { result ≡ get_or kinds.now at 0 }
-{
-    if at < kinds.len() { kinds[at] } else { 0 }
-}
-
-// The operand at a position.
-pub fn operand_at(operands: &[i64], at: usize) -> i64
-    ensures { result ≡ get_or operands.now at (pos 0) }
-{
-    if at < operands.len() { operands[at] } else { 0 }
-}
-
 // The low 24 bits of a word: up to three bytes that an operand has.
 pub fn low_bits(w: i64) -> u64
     ensures { result ≡ low_bits w }
@@ -72,7 +58,7 @@ pub fn low_bits(w: i64) -> u64
 pub fn name_at(operands: &[i64], at: usize) -> u8
     ensures { result ≡ name_at operands.now at }
 {
-    (low_bits(operand_at(operands, at)) % 256) as u8
+    (low_bits(words::get_or(operands, at, 0)) % 256) as u8
 }
 
 // The same at a position within the code.
@@ -84,6 +70,7 @@ pub fn name_within(operands: &[i64], at: usize) -> u8
 }
 
 // The atom at a position; past the end it is name 0.
+#[tactic(auto, unfolding(crate::specs::Reading::atom_at))]
 pub fn atom_at(kinds: &[u8], operands: &[i64], at: usize) -> Atom
     requires { Cut kinds.now operands.now }
     ensures { result ≡ atom_at kinds.now operands.now at }
@@ -99,15 +86,11 @@ pub fn atom_at(kinds: &[u8], operands: &[i64], at: usize) -> Atom
 pub fn atom_stands(kinds: &[u8], at: usize) -> bool
     ensures { result ≡ is_atom (get_or kinds.now at 0) }
 {
-    let kind = kind_at(kinds, at);
-    if kind == kinds::NUMBER {
-        true
-    } else {
-        kind == kinds::NAME
-    }
+    matches!(words::get_or(kinds, at, 0), kinds::NUMBER | kinds::NAME)
 }
 
 // The atom at a position within the code.
+#[tactic(auto, unfolding(crate::specs::Reading::atom_at))]
 pub fn atom_within(kinds: &[u8], operands: &[i64], at: usize) -> Atom
     requires { (at < length kinds.now) × (at < length operands.now) }
     ensures { result ≡ atom_at kinds.now operands.now at }
@@ -120,6 +103,7 @@ pub fn atom_within(kinds: &[u8], operands: &[i64], at: usize) -> Atom
 }
 
 // Whether two rows are within the code from a position on, as they are where a line of a tree begins.
+#[tactic(auto, using(crate::proofs::Reading::rows_within))]
 pub fn two_rows(kinds: &[u8], operands: &[i64], at: usize) -> bool
     requires { Cut kinds.now operands.now }
     ensures { result ≡ two_rows kinds.now operands.now at }
@@ -130,6 +114,7 @@ pub fn two_rows(kinds: &[u8], operands: &[i64], at: usize) -> bool
 // The line that begins at a position, where its first two rows are within the code. The machine alone calls it, so that
 // it is compiled into the machine's loop: with a second caller it was a function of its own, and a delivery took 1.7
 // times as many instructions.
+#[tactic(auto, unfolding(crate::specs::Reading::line_at))]
 pub fn line_at(kinds: &[u8], operands: &[i64], at: usize) -> Line
     requires { (at + 1 < length kinds.now) × Cut kinds.now operands.now }
     ensures { result ≡ line_at kinds.now operands.now at }
@@ -172,6 +157,7 @@ pub fn line_at(kinds: &[u8], operands: &[i64], at: usize) -> Line
 }
 
 // The same for all others.
+#[tactic(auto, unfolding(crate::specs::Reading::line_at))]
 pub fn read_line(kinds: &[u8], operands: &[i64], at: usize) -> Line
     requires { (at + 1 < length kinds.now) × Cut kinds.now operands.now }
     ensures { result ≡ line_at kinds.now operands.now at }
@@ -202,22 +188,12 @@ pub fn read_line(kinds: &[u8], operands: &[i64], at: usize) -> Line
     }
 }
 
-// A byte of the table.
-fn byte_at(table: &[u8], i: usize) -> usize
-    ensures { (result ≡ get_or table.now i 0) × (result < 256) }
-{
-    if i < table.len() {
-        table[i] as usize
-    } else {
-        0
-    }
-}
-
 // The depth of a name of a function.
+#[tactic(auto, unfolding(crate::specs::Reading::depth_in))]
 pub fn depth_in(table: &[u8], f: u8, x: u8) -> u32
     ensures { result ≡ depth_in table.now f x }
 {
-    byte_at(table, 256 * (f as usize) + x as usize) as u32
+    words::get_or(table, 256 * (f as usize) + x as usize, 0) as u32
 }
 
 // The element depth of an array by its name: one less than the name's depth.
@@ -228,15 +204,26 @@ pub fn element_depth(table: &[u8], f: u8, x: u8) -> u32
     if d == 0 { 0 } else { d - 1 }
 }
 
+// The position that two bytes of the table are, low byte first.
+fn position_at(table: &[u8], place: usize) -> usize
+    requires { place < 18446744073709551615 }
+    ensures value { result ≡ get_or table.now place 0 + 256 * get_or table.now (place + 1) 0 }
+    ensures small { result < 65536 }
+{
+    words::get_or(table, place, 0) as usize + 256 * words::get_or(table, place + 1, 0) as usize
+}
+
 // The position of a function's own line.
+#[tactic(auto, unfolding(crate::specs::Reading::start_in))]
 pub fn start_in(table: &[u8], f: u8) -> usize
     ensures { (result ≡ start_in table.now f) × (result < 65536) }
 {
     let at = STARTS + 2 * (f as usize);
-    byte_at(table, at) + 256 * byte_at(table, at + 1)
+    position_at(table, at)
 }
 
 // The position after the tree that begins at a position.
+#[tactic(auto, unfolding(crate::specs::Reading::end_in))]
 pub fn end_in(table: &[u8], at: usize) -> usize
     ensures { (result ≡ end_in table.now at) × (result < 65536) }
 {
@@ -244,5 +231,5 @@ pub fn end_in(table: &[u8], at: usize) -> usize
         return 0;
     }
     let place = ENDS + 2 * at;
-    byte_at(table, place) + 256 * byte_at(table, place + 1)
+    position_at(table, place)
 }

@@ -5,19 +5,23 @@ use Rattle.semantics.specs.Store.{Store, cell_of, acquired, retained, released, 
 use Rattle.semantics.specs.Store.{free_cells}
 use Rattle.semantics.specs.Words.{store_of}
 use Rattle.store.specs.Acquiring.{acquired_outcome, next_cell}
-use Rattle.store.specs.declared.Acquired.{Acquired}
-use Rattle.store.specs.declared.Acquired.TheVariants.{Cell, NoneFree}
+use Rattle.store.specs.declared.Gained.{Gained}
+use Rattle.std.specs.Prelude.{Option, Some, None}
 use Rattle.machine_code.specs.Reading.{name_at, start_in}
-use Rattle.machine_frames.specs.declared.Out.{Out}
+use Rattle.machine_frames.specs.Work.{Out}
 use Rattle.machine_frames.specs.Frames.{frame_words, place, function_place, put_named, called, lowest_of}
 use Rattle.machine_frames.specs.Frames.{levelled}
-use Rattle.machine_frames.specs.Work.{memory, ran}
+use Rattle.answers.specs.declared.Stop.TheVariants.{OutOfCells}
+use Rattle.machine_frames.specs.declared.Cause.{Cause}
+use Rattle.machine_frames.specs.declared.Cause.TheVariants.{Stopped}
+use Rattle.machine_frames.proofs.Results.{cause_real}
+use Rattle.machine_frames.specs.Work.{cause_number, memory, ran}
 use Rattle.machine_spec.specs.Machine.{Code, tree_in, tree_on, call_on, Ended}
 use Rattle.machine_spec.specs.Delivery.{Tried, tried, retained_totals, released_totals, finished}
 use Rattle.machine_spec.specs.Delivery.{main_frame, main_on, attempt_with, attempt_on, settled, delivered_on}
 use Rattle.machine_delivery.specs.declared.Attempted.{Attempted}
 use Rattle.machine_delivery.specs.declared.Delivery.{Delivery}
-use Rattle.machine_delivery.specs.Promises.{Tries, DeliversOn}
+use Rattle.machine_delivery.specs.Promises.{stopped_number, Tries, DeliversOn}
 
 -- ---- the totals' own reference
 
@@ -95,15 +99,20 @@ module _ {t : Tried} {budget d : ℕ} {old : ℤ} {r : Out} {least : ℕ} (sl : 
       (tried r.stop least r.steps (released_totals d old (with_totals (store_of sl he) r.value)))
       (tried r.stop least r.steps (store_of sl he))
 
-  pub main_stops : (r.stop ≡ 0 → ⊥) →
-      Tries t budget (record { stop = r.stop; lowest = least; steps = r.steps }) sl he
-  main_stops h = record { is = sym (ends.is ∙ ap by_stop (ne_eqb r.stop 0 h)); fewer = ends.fewer }
+  pub main_stops : (c : Cause) → r.stop ≡ cause_number c →
+      Tries t budget (record { stopped = Some c; lowest = least; steps = r.steps }) sl he
+  main_stops c e = record {
+    is = ap (λ (n : ℕ). tried n least r.steps (store_of sl he)) (sym e)
+        ∙ sym (ends.is ∙ ap by_stop (ne_eqb r.stop 0 (λ z. cause_real c (sym e ∙ z))));
+    fewer = ends.fewer;
+  }
 
   pub main_goes : r.stop ≡ 0 → (sl' : List ℤ) (he' : List ℕ) →
       store_of sl' he' ≡ released_totals d old (with_totals (store_of sl he) r.value) →
-      Tries t budget (record { stop = r.stop; lowest = least; steps = r.steps }) sl' he'
+      Tries t budget (record { stopped = None; lowest = least; steps = r.steps }) sl' he'
   main_goes h sl' he' e = record {
-    is = sym (ends.is ∙ ap by_stop (eq-eqb r.stop 0 h)
+    is = ap (λ (n : ℕ). tried n least r.steps (store_of sl' he')) (sym h)
+        ∙ sym (ends.is ∙ ap by_stop (eq-eqb r.stop 0 h)
         ∙ ap (λ (σ : Store). tried r.stop least r.steps σ) (sym e));
     fewer = ends.fewer;
   }
@@ -111,7 +120,7 @@ module _ {t : Tried} {budget d : ℕ} {old : ℤ} {r : Out} {least : ℕ} (sl : 
 -- ---- the attempt
 
 module _ (c : Code) (readings : List ℤ) (d budget : ℕ) (slots : List ℤ) (heads : List ℕ) (free : ℕ)
-    (fe : free ≡ free_cells (store_of slots heads)) (q : Acquired)
+    (fe : free ≡ free_cells (store_of slots heads)) (q : Option Gained)
     (qe : acquired_outcome q ≡ next_cell free (store_of slots heads)) (sl₁ : List ℤ) (he₁ : List ℕ)
     (σe : store_of sl₁ he₁ ≡ acquired 0 readings (store_of slots heads)) where
   attempt_is : attempt_on c readings d budget (store_of slots heads)
@@ -121,21 +130,21 @@ module _ (c : Code) (readings : List ℤ) (d budget : ℕ) (slots : List ℤ) (h
       let e = sym (qe ∙ ap (λ (n : ℕ). next_cell n (store_of slots heads)) fe) in
       λ i. attempt_with c d (store_of slots heads).totals budget (sym fe i) (sym σe i) (e i)
 
-  pub attempt_cell : (k n : ℕ) → q ≡ Cell k n → (old : ℤ) → old ≡ get_or slots 0 (pos 0) → (r : Attempted) (sl : List ℤ)
-      (he : List ℕ) → Tries (main_on c d old k n budget (store_of sl₁ he₁)) budget r sl he →
+  pub attempt_cell : (g : Gained) → q ≡ Some g → (old : ℤ) → old ≡ get_or slots 0 (pos 0) → (r : Attempted) (sl : List ℤ)
+      (he : List ℕ) → Tries (main_on c d old g.cell g.left budget (store_of sl₁ he₁)) budget r sl he →
       Tries (attempt_on c readings d budget (store_of slots heads)) budget r sl he
   unfolding store_of
-  attempt_cell k n h old oe r sl he done = record {
-    is = done.is ∙ sym (attempt_is ∙ ap (λ (y : Acquired). attempt_with c d (get_or slots 0 (pos 0)) budget free
+  attempt_cell g h old oe r sl he done = record {
+    is = done.is ∙ sym (attempt_is ∙ ap (λ (y : Option Gained). attempt_with c d (get_or slots 0 (pos 0)) budget free
         (store_of sl₁ he₁) (acquired_outcome y)) h
-        ∙ ap (λ (y : ℤ). main_on c d y k n budget (store_of sl₁ he₁)) (sym oe));
+        ∙ ap (λ (y : ℤ). main_on c d y g.cell g.left budget (store_of sl₁ he₁)) (sym oe));
     fewer = done.fewer;
   }
 
-  pub attempt_none : q ≡ NoneFree → Tries (attempt_on c readings d budget (store_of slots heads)) budget
-      (record { stop = 25; lowest = free; steps = budget }) sl₁ he₁
+  pub attempt_none : q ≡ None → Tries (attempt_on c readings d budget (store_of slots heads)) budget
+      (record { stopped = Some (Stopped OutOfCells); lowest = free; steps = budget }) sl₁ he₁
   attempt_none h = record {
-    is = sym (attempt_is ∙ ap (λ (y : Acquired). attempt_with c d (store_of slots heads).totals budget free
+    is = sym (attempt_is ∙ ap (λ (y : Option Gained). attempt_with c d (store_of slots heads).totals budget free
         (store_of sl₁ he₁) (acquired_outcome y)) h);
     fewer = omega arith;
   }
@@ -146,10 +155,10 @@ module _ (c : Code) (readings : List ℤ) (d budget : ℕ) (σ : Store) (r : Att
     (done : Tries (attempt_on c readings d budget σ) budget r sl he) where
   -- what the attempt says
   abbrev delivery : Delivery
-  delivery = record { number = r.stop; lowest = r.lowest; steps = budget - r.steps }
+  delivery = record { stopped = r.stopped; lowest = r.lowest; steps = budget - r.steps }
 
   delivered_is : delivered_on c readings d budget σ
-      ≡ settled budget σ (tried r.stop r.lowest r.steps (store_of sl he))
+      ≡ settled budget σ (tried (stopped_number r.stopped) r.lowest r.steps (store_of sl he))
   unfolding delivered_on
   delivered_is = ap (settled budget σ) (sym done.is)
 
@@ -163,11 +172,11 @@ module _ (c : Code) (readings : List ℤ) (d budget : ℕ) (σ : Store) (r : Att
     store = e;
   }
 
-  pub delivery_stops : (r.stop ≡ 0 → ⊥) → (sl' : List ℤ) (he' : List ℕ) → store_of sl' he' ≡ relinked σ →
+  pub delivery_stops : (stopped_number r.stopped ≡ 0 → ⊥) → (sl' : List ℤ) (he' : List ℕ) → store_of sl' he' ≡ relinked σ →
       DeliversOn (delivered_on c readings d budget σ) delivery sl' he'
   delivery_stops h sl' he' e = delivers sl' he' (e ∙ sym (ap (λ t. t.store) delivered_is
-      ∙ ap (λ t. cond t (store_of sl he) (relinked σ)) (ne_eqb r.stop 0 h)))
+      ∙ ap (λ t. cond t (store_of sl he) (relinked σ)) (ne_eqb (stopped_number r.stopped) 0 h)))
 
-  pub delivery_goes : r.stop ≡ 0 → DeliversOn (delivered_on c readings d budget σ) delivery sl he
+  pub delivery_goes : stopped_number r.stopped ≡ 0 → DeliversOn (delivered_on c readings d budget σ) delivery sl he
   delivery_goes h = delivers sl he (sym (ap (λ t. t.store) delivered_is
-      ∙ ap (λ t. cond t (store_of sl he) (relinked σ)) (eq-eqb r.stop 0 h)))
+      ∙ ap (λ t. cond t (store_of sl he) (relinked σ)) (eq-eqb (stopped_number r.stopped) 0 h)))

@@ -7,11 +7,11 @@ ghost use Rattle.semantics.specs.Words.{store_of, shaped};
 ghost use Rattle.machine_code.specs.Reading.{Cut};
 ghost use Rattle.machine_spec.specs.Machine.{code};
 ghost use Rattle.machine_spec.specs.Delivery.{retained_totals, released_totals, main_on, attempt_on, delivered_on};
-ghost use Rattle.machine_delivery.specs.Promises.{Tries, DeliversOn};
+ghost use Rattle.machine_delivery.specs.Promises.{stopped_number, Tries, DeliversOn};
 
+use answers::Stop;
 use machine_code::{MOST_LINES, TABLE_BYTES};
-use machine_frames::{FRAME_WORDS, MAIN_FRAME};
-use store::Acquired;
+use machine_frames::{Cause, FRAME_WORDS, MAIN_FRAME};
 
 // How many words a store of 16 cells has, and how many one of 256.
 const FEW_SLOTS: usize = 257;
@@ -22,18 +22,30 @@ const MOST_SLOTS: usize = 4097;
 
 const MOST_HEADS: usize = 1025;
 
-// How a delivery ends: the number of its stop or 0, the least number of free cells over it, and the steps taken.
+// How a delivery ends: why it was stopped, if it was, the least number of free cells over it, and the steps taken.
 #[derive(Clone, Copy)]
 pub struct Delivery {
-    pub number: u8,
+    pub stopped: Option<Cause>,
     pub lowest: u32,
     pub steps: u64,
+}
+
+impl Delivery {
+    // The number of its stop, or 0.
+    pub fn number(self) -> u8
+        ensures { result ≡ stopped_number self.stopped }
+    {
+        match self.stopped {
+            Some(cause) => cause.number(),
+            None => 0,
+        }
+    }
 }
 
 // The same before the clearing after a stop, with the steps left.
 #[derive(Clone, Copy)]
 pub struct Attempted {
-    pub stop: u8,
+    pub stopped: Option<Cause>,
     pub lowest: u32,
     pub steps: u64,
 }
@@ -87,7 +99,7 @@ fn work_main(
     machine_frames::bind(&mut env, MAIN_FRAME, x, old);
     machine_frames::bind(&mut env, MAIN_FRAME, y, readings);
     machine_frames::set_function(&mut env, MAIN_FRAME, 0);
-    let r = machine::work_tree(
+    let worked = machine::work_tree(
         &kinds,
         &operands,
         table,
@@ -99,17 +111,22 @@ fn work_main(
         MAIN_FRAME,
         head + 1 + n,
     );
-    let stop = r.stop;
     let lowest = machine_frames::lowest(&env);
-    if stop == 0 {
-        let w = r.value;
-        store_words::set_totals(slots, w);
-        release_totals(slots, heads, depth, old);
-    }
-    Attempted {
-        stop,
-        lowest,
-        steps: r.steps,
+    match worked {
+        Ok(given) => {
+            store_words::set_totals(slots, given.value);
+            release_totals(slots, heads, depth, old);
+            Attempted {
+                stopped: None,
+                lowest,
+                steps: given.steps,
+            }
+        }
+        Err(halted) => Attempted {
+            stopped: Some(halted.cause),
+            lowest,
+            steps: halted.steps,
+        },
     }
 }
 
@@ -130,21 +147,28 @@ fn attempt(
         readings.now depth budget (store_of slots.old heads.old))
         budget result slots.new heads.new }
 {
-    let old = store_words::word_at(slots, 0);
+    let old = words::get_or(slots, 0, 0);
     let free = store_words::cells_free(slots, heads);
-    match store::acquire(slots, heads, 0, readings, free) {
-        Acquired::Cell(c, left) => {
-            let w = machine_frames::word_from(c);
-            work_main(
-                kinds, operands, table, slots, heads, depth, old, w, left, budget,
-            )
-        }
-        Acquired::NoneFree => Attempted {
-            stop: answers::OUT_OF_CELLS,
+    let Some(gained) = store::acquire(slots, heads, 0, readings, free) else {
+        return Attempted {
+            stopped: Some(Cause::Stopped(Stop::OutOfCells)),
             lowest: free,
             steps: budget,
-        },
-    }
+        };
+    };
+    let w = machine_frames::word_from(gained.cell);
+    work_main(
+        kinds,
+        operands,
+        table,
+        slots,
+        heads,
+        depth,
+        old,
+        w,
+        gained.left,
+        budget,
+    )
 }
 
 // A delivery of these readings, with totals of this depth; the store's words are kept for a stop in two arrays that are
@@ -168,22 +192,19 @@ fn deliver_kept(
         readings.now depth budget (store_of slots.old heads.old))
         result slots.new heads.new }
 {
-    store_reset::save_slots(old_slots, slots);
-    store_reset::save_heads(old_heads, heads);
+    store_reset::save_words(old_slots, slots);
+    store_reset::save_words(old_heads, heads);
     let r = attempt(
         kinds, operands, table, slots, heads, readings, depth, budget,
     );
-    let number = r.stop;
-    let lowest = r.lowest;
-    let left = r.steps;
-    let steps = budget - left;
-    if number != 0 {
+    let stopped = r.stopped.is_some();
+    if stopped {
         store_reset::put_back(slots, heads, old_slots, old_heads);
     }
     Delivery {
-        number,
-        lowest,
-        steps,
+        stopped: r.stopped,
+        lowest: r.lowest,
+        steps: budget - r.steps,
     }
 }
 

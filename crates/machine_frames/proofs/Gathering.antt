@@ -1,5 +1,5 @@
 -- The words of the atoms that follow a line, and the loop that copies them into a frame.
-use Rattle.prelude.specs.Kit.{ℕ, ◌≤◌, ◌+◌, ◌<◌, ◌-◌, suc, zero, ◌*◌, ◌%◌, arith, true, false, Bool, cond, ◌≡◌, refl}
+use Rattle.prelude.specs.Kit.{ℕ, ◌≤◌, ◌+◌, ◌<◌, ◌-◌, min, suc, zero, ◌*◌, ◌%◌, arith, true, false, Bool, cond, ◌≡◌, refl}
 use Rattle.prelude.specs.Kit.{◌∙◌, sym, ap, ap₂, List, [], ◌∷◌, eqb, ℤ, pos, length, get_or, set, length-set}
 use Rattle.prelude.specs.Kit.{get_or-set_other, lt-ltb, le-ltb}
 use Rattle.machine_code.specs.Reading.{low_bits, name_at, is_atom, atom_at}
@@ -112,20 +112,16 @@ module _ {kinds : List ℕ} {operands : List ℤ} {calls below at names count : 
   abbrev copy_on : ℕ → ℕ → List ℤ
   copy_on m n = put_named operands below (arguments_at m n kinds operands calls env (at + i)) (names + i) env
 
-  pub copied_all : i ≡ count → env ≡ passed kinds operands calls below at names count env₀
+  pub copied_all : min count 8 ≤ i → env ≡ passed kinds operands calls below at names count env₀
   unfolding put_named arguments_at
-  copied_all e = sym (inv.same ∙ ap (copy_on (8 - i)) (let z : count - i ≡ 0 = omega arith in z) ∙ go (8 - i))
+  copied_all h = sym (inv.same ∙ go (8 - i) (count - i) (omega arith))
     where
-      go : (m : ℕ) → copy_on m 0 ≡ env
-      go zero = refl
-      go (suc m) = refl
+      go : (m n : ℕ) → min m n ≡ 0 → copy_on m n ≡ env
+      go zero n e = refl
+      go (suc m) zero e = refl
+      go (suc m) (suc n) e = absurd (omega arith)
 
-  pub copied_full : 8 ≤ i → env ≡ passed kinds operands calls below at names count env₀
-  unfolding put_named arguments_at
-  copied_full h = sym (inv.same
-      ∙ ap (λ (m : ℕ). copy_on m (count - i)) (let z : 8 - i ≡ 0 = omega arith in z))
-
-  pub copying_more : i < 8 → (i ≡ count → ⊥) → below < calls → calls < 32 →
+  pub copying_more : i < 8 → i < count → below < calls → calls < 32 →
       (a : Atom) (v : ℤ) → a ≡ atom_at kinds operands (at + i) → v ≡ word_of calls env a → (x p : ℕ) →
       x ≡ name_at operands (names + i) → p ≡ place below x →
       Copying kinds operands calls below at names count env₀ (set env p v) (i + 1)

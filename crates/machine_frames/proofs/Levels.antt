@@ -1,13 +1,8 @@
 -- Laws of the levels among the frames.
 use Rattle.prelude.specs.Kit.{ℕ, ◌≤◌, ◌+◌, ◌<◌, ◌^◌, arith, true, false, Bool, cond, ◌≡◌, refl, ◌∙◌, ap, List, ltb, ℤ}
-use Rattle.prelude.specs.Kit.{pos, negsuc, length, set, length-set, lt-ltb, le-ltb, w64, to_z}
-use Rattle.machine_code.specs.Reading.{low_bits}
+use Rattle.prelude.specs.Kit.{pos, length, set, length-set, lt-ltb, le-ltb, w64, to_z}
 use Rattle.machine_frames.specs.Frames.{level_place, lowest_place, level_of, lowest_of, levelled, noted}
 use Rattle.machine_frames.specs.Frames.{raised}
-
-pub low_few : (z : ℤ) → low_bits z < 16777216
-low_few (pos n) = omega arith
-low_few (negsuc n) = omega arith
 
 module _ (n least : ℕ) (env : List ℤ) (e : least ≡ lowest_of env) where
   pub noted_lower : n < 2 ^ 63 → n < least →

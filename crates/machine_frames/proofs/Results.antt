@@ -1,13 +1,23 @@
--- Laws of a result that is bound to a name.
-use Rattle.prelude.specs.Kit.{ℕ, ◌≡◌, ap₂, List, ℤ, set, ne_eqb, eq-eqb}
-use Rattle.machine_frames.specs.declared.Out.{Out}
-use Rattle.machine_frames.specs.Frames.{place}
-use Rattle.machine_frames.specs.Work.{left, out, bound_result}
+-- Laws of how work ends.
+use Rattle.prelude.specs.Kit.{◌≡◌, arith}
+use Rattle.answers.specs.declared.Stop.{Stop}
+use Rattle.answers.specs.declared.Stop.TheVariants.{OutOfSteps, CallTooDeep, IndexOutOfRange, Overflow, OutOfCells}
+use Rattle.answers.specs.declared.Stop.TheVariants.{BadCount, BadGuard}
+use Rattle.answers.specs.Numbers.{stop_number}
+use Rattle.machine_frames.specs.declared.Cause.{Cause}
+use Rattle.machine_frames.specs.declared.Cause.TheVariants.{Stopped, NoLine}
+use Rattle.machine_frames.specs.Work.{cause_number}
 
-module _ (calls x next : ℕ) (r : Out) (env : List ℤ) where
-  pub bound_stop : (r.stop ≡ 0 → ⊥) → left r env ≡ bound_result calls x next r env
-  bound_stop h = rw (ne_eqb r.stop 0 h)
+-- no stop has the number of work that goes on
+pub stop_real : (s : Stop) → stop_number s ≡ 0 → ⊥
+stop_real OutOfSteps e = omega arith
+stop_real CallTooDeep e = omega arith
+stop_real IndexOutOfRange e = omega arith
+stop_real Overflow e = omega arith
+stop_real OutOfCells e = omega arith
+stop_real BadCount e = omega arith
+stop_real BadGuard e = omega arith
 
-  pub bound_goes : r.stop ≡ 0 → (env' : List ℤ) → env' ≡ set env (place calls x) r.value → (q : Out) →
-      q ≡ out 0 r.value next r.steps → left q env' ≡ bound_result calls x next r env
-  bound_goes h env' e q g = rw (eq-eqb r.stop 0 h) (ap₂ left g e)
+pub cause_real : (c : Cause) → cause_number c ≡ 0 → ⊥
+cause_real (Stopped s) e = stop_real s e
+cause_real NoLine e = omega arith

@@ -1,20 +1,11 @@
 -- Laws of the tests of a word: whether it is a number from 0 on that is below a bound, and whether it is 0.
-use Rattle.prelude.specs.Kit.{ℕ, ◌<◌, suc, zero, ◌^◌, arith, true, false, Bool, ◌≡◌, refl, sym, ltb, leb, ℤ, pos}
-use Rattle.prelude.specs.Kit.{negsuc, lt_z, mag, le_z, lt-ltb, le-ltb, ltb-true, leb-true, leb-false, w64, of_z}
+use Rattle.prelude.specs.Kit.{ℕ, ◌<◌, suc, zero, ◌^◌, arith, true, false, ◌≡◌, refl, ℤ, pos}
+use Rattle.prelude.specs.Kit.{negsuc, lt_z, mag, ltb-true, w64, of_z}
 use Rattle.semantics.specs.Number.{is_zero, inside}
-use Rattle.machine_code.proofs.Reading.{no_bool}
 
 pub inside_negative : (w : ℤ) (n : ℕ) → lt_z w (pos 0) ≡ true → inside w n ≡ false
 inside_negative (pos i) n e = let f = ltb-true i 0 e in absurd (omega arith)
 inside_negative (negsuc i) n e = refl
-
-pub inside_at_most : (w : ℤ) (n : ℕ) → lt_z w (pos 0) ≡ false → le_z w (pos n) ≡ inside w (suc n)
-inside_at_most (pos i) n e = go (leb i n) refl
-  where
-    go : (t : Bool) → leb i n ≡ t → t ≡ ltb i (suc n)
-    go true h = sym (lt-ltb i (suc n) (omega (arith, leb-true i n h)))
-    go false h = sym (le-ltb i (suc n) (omega (arith, leb-false i n h)))
-inside_at_most (negsuc i) n e = no_bool e
 
 pub guard_zero : (z : ℤ) → mag z < 2 ^ 63 → of_z w64 z ≡ 0 → is_zero z ≡ true
 guard_zero (pos zero) h e = refl

@@ -1,8 +1,12 @@
 -- How a piece of work ends, and the memory that it leaves.
-use Rattle.std.specs.Prelude.{◌≡◌, cond, List, ℕ, zero, suc, ℤ, pos, eqb, set}
+use Rattle.std.specs.Prelude.{◌≡◌, cond, List, ℕ, zero, suc, ℤ, pos, eqb, set, Result, Ok, Err}
 use Rattle.semantics.specs.Store.{Store}
 use Rattle.semantics.specs.Words.{store_of}
-use Rattle.machine_frames.specs.declared.Out.{Out}
+use Rattle.answers.specs.Numbers.{stop_number}
+use Rattle.machine_frames.specs.declared.Done.{Done}
+use Rattle.machine_frames.specs.declared.Cause.{Cause}
+use Rattle.machine_frames.specs.declared.Cause.TheVariants.{Stopped, NoLine}
+use Rattle.machine_frames.specs.declared.Halted.{Halted}
 use Rattle.machine_frames.specs.Frames.{place}
 
 -- what the machine changes: the store, and the words of the frames
@@ -12,6 +16,13 @@ pub record Memory : Type 0 where
 
 abbrev pub memory : Store → List ℤ → Memory
 memory σ env = record { store = σ; env = env }
+
+-- how a piece of work ends: the number of its stop or 0, its value, the position where the code goes on, the steps left
+pub record Out : Type 0 where
+  pub stop : ℕ
+  pub value : ℤ
+  pub next : ℕ
+  pub steps : ℕ
 
 -- how a piece of work ends, and the memory that it leaves
 pub record Ran : Type 0 where
@@ -38,6 +49,15 @@ with_store σ l = ran l.out (memory σ l.env)
 -- the stop of work that comes to no line that it can do: the code of an accepted script never does
 abbrev pub no_line : ℕ
 no_line = 99
+
+abbrev pub cause_number : Cause → ℕ
+cause_number (Stopped s) = stop_number s
+cause_number NoLine = no_line
+
+-- what the answer of a worker says of how its work ends
+abbrev pub shown : Result Done Halted → Out
+shown (Ok d) = out 0 d.value d.next d.steps
+shown (Err h) = out (cause_number h.cause) (pos 0) 0 h.steps
 
 -- a stop with some steps left
 abbrev pub halted : ℕ → ℕ → Memory → Ran

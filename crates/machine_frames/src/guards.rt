@@ -7,10 +7,7 @@ ghost use Rattle.machine_frames.specs.Frames.{branch_start, branch_end};
 pub fn is_answer(w: i64) -> bool
     ensures { result ≡ is_answer w }
 {
-    if w < 0 {
-        return false;
-    }
-    w <= 1
+    w >= 0 && w <= 1
 }
 
 // Where the branch of an if begins, by the word of its guard: the first tree, at a position, or the second.

@@ -10,8 +10,10 @@ ghost use Rattle.machine_code.specs.Reading.{Cut};
 ghost use Rattle.machine_frames.specs.Frames.{frame_words, place, word_of, arguments_within, put_named};
 ghost use Rattle.machine_frames.specs.Frames.{function_place, function_of, element_depth, level_of, lowest_of};
 ghost use Rattle.machine_frames.specs.Frames.{levelled, noted, raised};
-ghost use Rattle.machine_frames.specs.Work.{out, left, bound_result};
+ghost use Rattle.machine_frames.specs.Work.{out, left, bound_result, no_line, cause_number, shown};
+ghost use Rattle.answers.specs.Numbers.{stop_number};
 
+use answers::Stop;
 use kinds::Atom;
 
 // How many words the frames have.
@@ -31,40 +33,65 @@ const LEVEL: usize = 8224;
 
 const LOWEST: usize = 8225;
 
-// How work ends: the number of its stop or 0, its value, the position where the code goes on, the steps left.
+// What work gives that goes on: its value, the position where the code goes on, the steps left.
 #[derive(Clone, Copy)]
-pub struct Out {
-    pub stop: u8,
+pub struct Done {
     pub value: i64,
     pub next: usize,
     pub steps: u64,
 }
 
-// The stop of work that comes to no line that it can do: the code of an accepted script never does.
-pub const NO_LINE: u8 = 99;
+// Why work halts: a stop, or it comes to no line that it can do, as the code of an accepted script never does.
+#[derive(Clone, Copy)]
+pub enum Cause {
+    Stopped(Stop),
+    NoLine,
+}
 
-// A stop.
-pub fn halted(stop: u8, steps: u64) -> Out
-    ensures { result ≡ out stop (pos 0) 0 steps }
-{
-    Out {
-        stop,
-        value: 0,
-        next: 0,
-        steps,
+impl Cause {
+    // The number of the stop, or one that no stop has.
+    pub fn number(self) -> u8
+        ensures { result ≡ cause_number self }
+    {
+        match self {
+            Cause::Stopped(stop) => stop.number(),
+            Cause::NoLine => 99,
+        }
     }
 }
 
-// Work that goes on.
-pub fn done(value: i64, next: usize, steps: u64) -> Out
-    ensures { result ≡ out 0 value next steps }
+// How work halts: why, and the steps left.
+#[derive(Clone, Copy)]
+pub struct Halted {
+    pub cause: Cause,
+    pub steps: u64,
+}
+
+// A stop.
+pub fn halt(stop: Stop, steps: u64) -> Result<Done, Halted>
+    ensures { shown result ≡ out (stop_number stop) (pos 0) 0 steps }
 {
-    Out {
-        stop: 0,
-        value,
-        next,
+    Err(Halted {
+        cause: Cause::Stopped(stop),
         steps,
-    }
+    })
+}
+
+// Work that comes to no line that it can do.
+pub fn lost(steps: u64) -> Result<Done, Halted>
+    ensures { shown result ≡ out no_line (pos 0) 0 steps }
+{
+    Err(Halted {
+        cause: Cause::NoLine,
+        steps,
+    })
+}
+
+// Work that goes on.
+pub fn go_on(value: i64, next: usize, steps: u64) -> Result<Done, Halted>
+    ensures { shown result ≡ out 0 value next steps }
+{
+    Ok(Done { value, next, steps })
 }
 
 // The place of a name's word among the frames.
@@ -94,18 +121,20 @@ pub fn bind(env: &mut [i64; FRAME_WORDS], calls: usize, x: u8, w: i64)
     env[place(calls, x)] = w;
 }
 
-// Binds the word of work that was not stopped to a name, with the code going on at a position.
-pub fn bind_result(env: &mut [i64; FRAME_WORDS], calls: usize, x: u8, r: Out, next: usize) -> Out
+// Binds the word of work that did not halt to a name, with the code going on at a position.
+pub fn bind_result(
+    env: &mut [i64; FRAME_WORDS],
+    calls: usize,
+    x: u8,
+    r: Result<Done, Halted>,
+    next: usize,
+) -> Result<Done, Halted>
     requires { (calls < 32) × (length env.old ≡ frame_words) }
-    ensures { left result env.new ≡ bound_result calls x next r env.old }
+    ensures { left (shown result) env.new ≡ bound_result calls x next (shown r) env.old }
 {
-    let stop = r.stop;
-    if stop != 0 {
-        return r;
-    }
-    let w = r.value;
-    bind(env, calls, x, w);
-    done(w, next, r.steps)
+    let given = r?;
+    bind(env, calls, x, given.value);
+    go_on(given.value, next, given.steps)
 }
 
 // The number of the function that is worked in a frame.
@@ -171,6 +200,7 @@ pub fn note_level(env: &mut [i64; FRAME_WORDS], n: u32)
 }
 
 // Says that a release freed so many cells.
+#[tactic(auto, using(crate::proofs::Levels::raised_by))]
 pub fn raise_level(env: &mut [i64; FRAME_WORDS], freed: u32)
     requires { (freed ≤ 256) × (length env.old ≡ frame_words) }
     ensures { env.new ≡ raised freed env.old }
@@ -206,21 +236,13 @@ pub fn pass_arguments(
         (arguments_within count names kinds.now operands.now calls env.old at) names
         env.old }
 {
-    if kinds.len() < at + count {
+    if kinds.len() < at + count || kinds.len() < names + count {
         return;
     }
-    if kinds.len() < names + count {
-        return;
-    }
-    let mut i: usize = 0;
-    while i < 8 {
-        if i == count {
-            return;
-        }
+    for i in 0..count.min(8) {
         let a = machine_code::atom_within(kinds, operands, at + i);
         let w = word_of(env, calls, a);
         let x = machine_code::name_within(operands, names + i);
         env[NAMES * calls + x as usize - NAMES] = w;
-        i = i + 1;
     }
 }

@@ -12,7 +12,8 @@ use Rattle.laws.specs.Lists.{occurs_first}
 use Rattle.laws.specs.Levels.{counted_there}
 use Rattle.discipline.proofs.store.Invariant.{Invariant}
 use Rattle.discipline.proofs.store.FreeList.{Links, listed}
-use Rattle.store.specs.Acquiring.{Gained, gained, first_cell, next_cell}
+use Rattle.store.specs.declared.Gained.{Gained}
+use Rattle.store.specs.Acquiring.{gained, first_cell, next_cell}
 use Rattle.store.proofs.Acquiring.{with_remaining}
 use Rattle.machine_frames.specs.Frames.{level_of}
 use Rattle.machine_frames.specs.Work.{memory}

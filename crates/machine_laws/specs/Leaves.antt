@@ -22,7 +22,8 @@ use Rattle.discipline.proofs.machine.Fits.{replicate_fits}
 use Rattle.laws.specs.Tests.{some_if_holds, same_lists}
 use Rattle.discipline.proofs.machine.Discipline.{AllKnown, New, LeafFits}
 use Rattle.words.specs.Words.{checked}
-use Rattle.store.specs.Acquiring.{Gained, gained, next_cell}
+use Rattle.store.specs.declared.Gained.{Gained}
+use Rattle.store.specs.Acquiring.{gained, next_cell}
 use Rattle.machine_code.specs.Reading.{atom_at, is_atom, line_of, line_at, depth_in}
 use Rattle.kinds.specs.declared.Atom.{Atom}
 use Rattle.machine_code.specs.declared.Line.TheVariants as L

@@ -5,7 +5,7 @@ use Rattle.store.specs.Acquiring.{appended_all}
 use Rattle.machine_code.specs.Reading.{is_atom, atom_at}
 use Rattle.kinds.specs.declared.Atom.{Atom}
 use Rattle.machine_frames.specs.Frames.{word_of, words_at}
-use Rattle.machine_frames.proofs.Gathering.{words_left, words_start, words_end, words_full, words_next}
+use Rattle.machine_frames.proofs.Gathering.{words_left, words_end, words_full, words_next}
 use Rattle.machine_lines.specs.Lines.{Appended}
 
 pub record Appending (kinds : List ℕ) (operands : List ℤ) (calls at : ℕ) (env : List ℤ) (c : ℕ) (σ₀ σ : Store) (i : ℕ)
@@ -15,14 +15,6 @@ pub record Appending (kinds : List ℕ) (operands : List ℤ) (calls at : ℕ) (
   pub count : length (words_at 16 kinds operands calls env at)
       ≡ i + length (words_left kinds operands calls env at i)
   pub few : i ≤ 16
-
-pub appending_none : (kinds : List ℕ) (operands : List ℤ) (calls at : ℕ) (env : List ℤ) (c : ℕ) (σ : Store) →
-    Appending kinds operands calls at env c σ σ 0
-appending_none kinds operands calls at env c σ = record {
-  same = ap (λ (l : List ℤ). appended_all c l σ) (words_start kinds operands calls env at);
-  count = omega (arith, ap length (words_start kinds operands calls env at));
-  few = omega arith;
-}
 
 module _ {kinds : List ℕ} {operands : List ℤ} {calls at : ℕ} {env : List ℤ} {c : ℕ} {σ₀ σ : Store} {i : ℕ}
     (inv : Appending kinds operands calls at env c σ₀ σ i) where
@@ -39,8 +31,10 @@ module _ {kinds : List ℕ} {operands : List ℤ} {calls at : ℕ} {env : List �
       Appended (words_at 16 kinds operands calls env at) c i σ₀ σ
   appended_end e = appended_left (words_end kinds operands calls env at i e)
 
-  pub appended_full : 16 ≤ i → Appended (words_at 16 kinds operands calls env at) c i σ₀ σ
-  appended_full h = appended_left (words_full kinds operands calls env at i h)
+  pub appended_full : 16 ≤ i → Appended (words_at 16 kinds operands calls env at) c 16 σ₀ σ
+  appended_full h =
+      let all = appended_left (words_full kinds operands calls env at i h) in
+      record { store = all.store; count = omega (arith, all.count, inv.few, h); few = omega arith }
 
   pub appending_more : i < 16 → is_atom (get_or kinds (at + i) 0) ≡ true → (a : Atom) (v : ℤ) →
       a ≡ atom_at kinds operands (at + i) → v ≡ word_of calls env a → (σ' : Store) → σ' ≡ appended c v σ →

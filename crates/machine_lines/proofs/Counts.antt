@@ -1,19 +1,18 @@
 -- Laws of the arrays of a count of elements.
 use Rattle.prelude.specs.Kit.{ℕ, ◌≤◌, ◌+◌, ◌<◌, ◌-◌, suc, zero, arith, true, false, Bool, cond, ◌≡◌, refl, ◌∙◌, sym, ap}
 use Rattle.prelude.specs.Kit.{ap₂, List, T, ℤ, pos, negsuc, nat_abs, non_neg, length, get_or, length-replicate}
-use Rattle.prelude.specs.Kit.{get_or-replicate, ltb-true, w64, Fits}
+use Rattle.prelude.specs.Kit.{ne_eqb, ltb-true, w64, Fits}
 use Rattle.semantics.specs.Outcome.{Outcome, done, stop}
 use Rattle.semantics.specs.Machine.{is_count}
-use Rattle.semantics.specs.Store.{Store, cell_of, has_free, acquired, retained}
+use Rattle.semantics.specs.Store.{Store, has_free, acquired, retained}
 use Rattle.laws.specs.Lists.{tabulate_length, tabulate_at}
-use Rattle.store.specs.Acquiring.{Gained, gained, acquired_outcome, next_cell}
-use Rattle.store.specs.declared.Acquired.{Acquired}
-use Rattle.store.specs.declared.Acquired.TheVariants.{Cell, NoneFree}
+use Rattle.store.specs.declared.Gained.{Gained}
+use Rattle.store.specs.Acquiring.{gained, acquired_outcome, next_cell}
+use Rattle.std.specs.Prelude.{Option, Some, None}
 use Rattle.machine_code.proofs.Reading.{no_bool, less_one}
-use Rattle.machine_frames.specs.declared.Out.{Out}
+use Rattle.machine_frames.specs.Work.{Out}
 use Rattle.machine_frames.specs.Frames.{level_of, noted}
 use Rattle.machine_frames.specs.Work.{Memory, memory, Ran, ran, left, out, with_store, stepping, bound_result}
-use Rattle.machine_frames.proofs.Results.{bound_stop}
 use Rattle.machine_lines.specs.Lines.{Given, given, gave, acquired_given, elements_by, retained_times}
 use Rattle.machine_lines.specs.Lines.{retained_copies, made_memory, array_memory, counted_given, array_given}
 use Rattle.machine_lines.specs.Lines.{cell_from, array_made, giving_line, array_line}
@@ -28,9 +27,6 @@ module _ (w : ℤ) (n i : ℕ) (h : i < n) where
   pub element_counts : (counting : Bool) → counting ≡ true → pos i ≡ get_or (elements_by counting w n) i (pos 0)
   element_counts counting e = rw e (sym (tabulate_at n 0 (λ j. pos j) i (pos 0) h ∙ ap pos (omega arith)))
 
-  pub element_copies : (counting : Bool) → counting ≡ false → w ≡ get_or (elements_by counting w n) i (pos 0)
-  element_copies counting e = rw e (sym (get_or-replicate n i w (pos 0) h))
-
 -- ---- references more
 
 pub times_more : (n i c : ℕ) (σ : Store) → i < n →
@@ -41,14 +37,6 @@ times_more n i c σ h = ap (λ (k : ℕ). retained_times k c σ) (let z : n - i 
 pub times_end : (n i c : ℕ) (σ : Store) → n ≤ i → retained_times (n - i) c σ ≡ σ
 unfolding retained_times
 times_end n i c σ h = ap (λ (k : ℕ). retained_times k c σ) (let z : n - i ≡ 0 = omega arith in z)
-
-pub copies_none : (d : ℕ) (w : ℤ) (n : ℕ) (σ : Store) → d ≡ 0 → σ ≡ retained_copies d w n σ
-copies_none d w n σ e = rw e
-
-pub copies_some : (d : ℕ) (w : ℤ) (n : ℕ) (σ : Store) → (d ≡ 0 → ⊥) → (c : ℕ) → c ≡ cell_of w →
-    retained_times n c σ ≡ retained_copies d w n σ
-copies_some zero w n σ f c e = absurd (f refl)
-copies_some (suc d) w n σ f c e = ap (λ (k : ℕ). retained_times n k σ) e
 
 -- ---- counts
 
@@ -81,18 +69,18 @@ module _ (counting : Bool) (w : ℤ) (d : ℕ) (n : ℤ) (steps : ℕ) (m : Memo
     array_bad e r q = ap (λ (y : Out). ran y m) q
         ∙ sym (array_is ∙ rw e (ap (gave (steps - 1) m) (counted_bad (cell_from m))))
 
-    module _ (e : is_count n ≡ true) (a : Acquired) (ae : acquired_outcome a ≡ cell_from m) where
+    module _ (e : is_count n ≡ true) (a : Option Gained) (ae : acquired_outcome a ≡ cell_from m) where
       array_in : made ≡ gave (steps - 1) (made_memory counting w d (nat_abs n) m (acquired_outcome a))
           (acquired_given (acquired_outcome a))
       array_in = array_is ∙ rw (e, ae) refl
 
-      pub array_cell : (c k : ℕ) → a ≡ Cell c k → (env' : List ℤ) → env' ≡ noted k m.env → (τ : Store) →
+      pub array_cell : (g : Gained) → a ≡ Some g → (env' : List ℤ) → env' ≡ noted g.left m.env → (τ : Store) →
           τ ≡ retained_copies d w (nat_abs n) (acquired d (elements_by counting w (nat_abs n)) m.store) → (z : ℤ) →
-          z ≡ pos c → (r : Out) → r ≡ out 0 z 0 (steps - 1) → ran r (memory τ env') ≡ made
-      array_cell c k h env' f τ τe z ze r q =
+          z ≡ pos g.cell → (r : Out) → r ≡ out 0 z 0 (steps - 1) → ran r (memory τ env') ≡ made
+      array_cell g h env' f τ τe z ze r q =
           ap₂ ran (q ∙ ap (λ (y : ℤ). out 0 y 0 (steps - 1)) ze) (ap₂ memory τe f) ∙ sym (array_in ∙ rw h refl)
 
-      pub array_none : a ≡ NoneFree → (τ : Store) →
+      pub array_none : a ≡ None → (τ : Store) →
           τ ≡ acquired d (elements_by counting w (nat_abs n)) m.store → (r : Out) →
           r ≡ out 25 (pos 0) 0 (steps - 1) → ran r (memory τ m.env) ≡ made
       array_none h τ τe r q = ap₂ (λ (y : Out) (ρ : Store). ran y (memory ρ m.env)) q τe ∙ sym (array_in ∙ rw h refl)
@@ -114,6 +102,11 @@ array_real n m = go (is_count n) (has_free m.store)
     go true false = λ e. omega arith
     go false true = λ e. omega arith
     go false false = λ e. omega arith
+
+-- a stop is not bound
+bound_stop : (calls x next : ℕ) (r : Out) (env : List ℤ) → (r.stop ≡ 0 → ⊥) →
+    left r env ≡ bound_result calls x next r env
+bound_stop calls x next r env h = rw (ne_eqb r.stop 0 h)
 
 module _ (calls x next : ℕ) (env : List ℤ) (r : Out) (τ : Store) (q : Out) (env' : List ℤ)
     (bound : left q env' ≡ bound_result calls x next r env) where

@@ -2,18 +2,16 @@
 use Rattle.prelude.specs.Kit.{ℕ, ◌≤◌, ◌+◌, ◌<◌, ◌-◌, suc, zero, arith, true, false, Bool, cond, not, ◌≡◌, refl, ◌∙◌}
 use Rattle.prelude.specs.Kit.{sym, ap, ap₂, List, [], ◌∷◌, ltb, T, ℤ, pos, negsuc, nat_abs, lt_z, length, get_or, set}
 use Rattle.prelude.specs.Kit.{lt-ltb, le-ltb, ltb-true, ltb-false, tag_of, has_key, OneOf, miss}
+use Rattle.std.specs.Prelude.{Option, Some, None}
 use Rattle.machine_code.specs.contracts.Line.{the_type}
 use Rattle.semantics.specs.Outcome.{Outcome, done, stop}
-use Rattle.semantics.specs.Number.{Operation, less, exact, fits, inside}
+use Rattle.semantics.specs.Number.{less, exact, fits, inside}
 use Rattle.semantics.specs.Store.{Store, cell, cell_of, elements, acquired, has_free, cell_count, retained}
 use Rattle.semantics.specs.Store.{deepest, cells_taken}
 use Rattle.semantics.specs.Words.{store_of, cells_in}
 use Rattle.words.specs.Words.{exact_outcome, checked}
-use Rattle.words.specs.declared.Exact.{Exact}
-use Rattle.words.specs.declared.Exact.TheVariants.{Value, Overflow}
-use Rattle.store.specs.Acquiring.{Gained, gained, acquired_outcome, next_cell}
-use Rattle.store.specs.declared.Acquired.{Acquired}
-use Rattle.store.specs.declared.Acquired.TheVariants.{Cell, NoneFree}
+use Rattle.store.specs.declared.Gained.{Gained}
+use Rattle.store.specs.Acquiring.{acquired_outcome, next_cell}
 use Rattle.store.proofs.Filling.{cell_given}
 use Rattle.store_release.specs.Releasing.{Releases}
 use Rattle.store_words.proofs.CellWords.{few_cells, store_size, length_in, length_out}
@@ -22,7 +20,7 @@ use Rattle.kinds.specs.declared.Atom.TheVariants.{Name}
 use Rattle.machine_code.specs.declared.Line.{Line}
 use Rattle.machine_code.specs.declared.Line.TheVariants as L
 use Rattle.machine_code.proofs.Reading.{no_bool, less_one}
-use Rattle.machine_frames.specs.declared.Out.{Out}
+use Rattle.machine_frames.specs.Work.{Out}
 use Rattle.machine_frames.specs.Frames.{place, word_of, words_at, element_depth, noted, raised}
 use Rattle.machine_frames.specs.Work.{no_line, Memory, memory, Ran, ran, left, out, with_store, halted, stepping}
 use Rattle.machine_frames.proofs.Tests.{inside_negative}
@@ -73,16 +71,16 @@ module _ (calls kind x : ℕ) (a b : Atom) (next steps : ℕ) (env : List ℤ) w
   operation_spent = worked_spent calls x next steps env operation_here
 
   module _ (some : steps ≡ 0 → ⊥) (v w : ℤ) (ve : v ≡ word_of calls env a) (we : w ≡ word_of calls env b)
-      (e : Exact) (ee : exact_outcome e ≡ checked (exact (operation_of kind) v w)) where
+      (e : Option ℤ) (ee : exact_outcome e ≡ checked (exact (operation_of kind) v w)) where
     operation_is : operation_here ≡ exact_outcome e
     operation_is = sym (ee ∙ ap₂ (λ (y : ℤ) (z : ℤ). checked (exact (operation_of kind) y z)) ve we)
 
-    pub operation_value : (z : ℤ) → e ≡ Value z → (env' : List ℤ) → env' ≡ set env (place calls x) z → (r : Out) →
+    pub operation_value : (z : ℤ) → e ≡ Some z → (env' : List ℤ) → env' ≡ set env (place calls x) z → (r : Out) →
         r ≡ out 0 z next (steps - 1) → left r env' ≡ operation_line calls kind x a b next steps env
     operation_value z h =
         worked_word calls x next steps env operation_here some z (operation_is ∙ ap exact_outcome h)
 
-    pub operation_over : e ≡ Overflow → (r : Out) → r ≡ out 24 (pos 0) 0 (steps - 1) →
+    pub operation_over : e ≡ None → (r : Out) → r ≡ out 24 (pos 0) 0 (steps - 1) →
         left r env ≡ operation_line calls kind x a b next steps env
     operation_over h = worked_stop calls x next steps env operation_here some 24 (operation_is ∙ ap exact_outcome h)
 
@@ -156,14 +154,14 @@ module _ (σ : Store) (calls x : ℕ) (a : Atom) (next steps : ℕ) (env : List 
 -- ---- a literal
 
 -- the cell that an acquire answers is small
-pub next_small : (free : ℕ) (slots : List ℤ) (heads : List ℕ) (q : Acquired) (c k : ℕ) →
+pub next_small : (free : ℕ) (slots : List ℤ) (heads : List ℕ) (q : Option Gained) (g : Gained) →
     acquired_outcome q ≡ next_cell free (store_of slots heads) →
-    q ≡ Cell c k → c < 256
+    q ≡ Some g → g.cell < 256
 unfolding has_free
-next_small free slots heads q c k e h = let e' = ap acquired_outcome (sym h) ∙ e in
-    let given = cell_given free (store_of slots heads) (gained c k) e' in omega (
+next_small free slots heads q g e h = let e' = ap acquired_outcome (sym h) ∙ e in
+    let given = cell_given free (store_of slots heads) g e' in omega (
       arith,
-      ap (λ (g : Gained). g.cell) given.1,
+      ap (λ (x : Gained). x.cell) given.1,
       ltb-true (store_of slots heads).first (cell_count (store_of slots heads)) given.0,
       store_size slots heads,
       few_cells slots heads,
@@ -176,7 +174,7 @@ module _ (kinds : List ℕ) (operands : List ℤ) (calls x d at steps : ℕ) (m 
   literal_spent r z e = rw (e, z)
 
   module _ (some : steps ≡ 0 → ⊥) (ws : List ℤ) (we : ws ≡ words_at 16 kinds operands calls m.env (at + 1))
-      (q : Acquired) (qe : acquired_outcome q ≡ cell_from m) (σ : Store) (σe : σ ≡ acquired d ws m.store) where
+      (q : Option Gained) (qe : acquired_outcome q ≡ cell_from m) (σ : Store) (σe : σ ≡ acquired d ws m.store) where
     literal_is : literal_line kinds operands calls x d at steps m
         ≡ with_store σ (given calls x (at + 1 + length ws) (steps - 1) (noted_by (acquired_outcome q) m.env)
         (acquired_given (acquired_outcome q)))
@@ -184,22 +182,23 @@ module _ (kinds : List ℕ) (operands : List ℤ) (calls x d at steps : ℕ) (m 
     literal_is = ap (λ (n : ℕ). literal_line kinds operands calls x d at n m) (less_one steps (omega arith))
         ∙ rw (← we, ← qe, ← σe) refl
 
-    pub literal_cell : (c k : ℕ) → q ≡ Cell c k → (env₁ : List ℤ) → env₁ ≡ noted k m.env → (z : ℤ) → z ≡ pos c →
+    pub literal_cell : (g : Gained) → q ≡ Some g → (env₁ : List ℤ) → env₁ ≡ noted g.left m.env → (z : ℤ) →
+        z ≡ pos g.cell →
         (env' : List ℤ) → env' ≡ set env₁ (place calls x) z → (n : ℕ) → n ≡ length ws → (r : Out) →
         r ≡ out 0 z (at + 1 + n) (steps - 1) →
         ran r (memory σ env') ≡ literal_line kinds operands calls x d at steps m
-    literal_cell c k h env₁ f z ze env' g n ne r p = sym (literal_is
-        ∙ ap (λ (y : Acquired). with_store σ (given calls x (at + 1 + length ws) (steps - 1)
+    literal_cell g h env₁ f z ze env' b n ne r p = sym (literal_is
+        ∙ ap (λ (y : Option Gained). with_store σ (given calls x (at + 1 + length ws) (steps - 1)
         (noted_by (acquired_outcome y) m.env) (acquired_given (acquired_outcome y)))) h
         ∙ ap₂ (λ (l : List ℤ) (y : ℤ). with_store σ (given calls x (at + 1 + length ws) (steps - 1) l (done y tt)))
         (sym f) (sym ze)
         ∙ ap (λ (i : ℕ). with_store σ (given calls x (at + 1 + i) (steps - 1) env₁ (done z tt))) (sym ne)
-        ∙ ap₂ (λ (y : Out) (l : List ℤ). ran y (memory σ l)) (sym p) (sym g))
+        ∙ ap₂ (λ (y : Out) (l : List ℤ). ran y (memory σ l)) (sym p) (sym b))
 
-    pub literal_none : q ≡ NoneFree → (r : Out) → r ≡ out 25 (pos 0) 0 (steps - 1) →
+    pub literal_none : q ≡ None → (r : Out) → r ≡ out 25 (pos 0) 0 (steps - 1) →
         ran r (memory σ m.env) ≡ literal_line kinds operands calls x d at steps m
     literal_none h r p = sym (literal_is
-        ∙ ap (λ (y : Acquired). with_store σ (given calls x (at + 1 + length ws) (steps - 1)
+        ∙ ap (λ (y : Option Gained). with_store σ (given calls x (at + 1 + length ws) (steps - 1)
         (noted_by (acquired_outcome y) m.env) (acquired_given (acquired_outcome y)))) h
         ∙ ap (λ (y : Out). ran y (memory σ m.env)) (sym p))
 

@@ -7,7 +7,8 @@ use Rattle.semantics.specs.Number.{Operation, sum, difference, less, exact, insi
 use Rattle.semantics.specs.Store.{Store, cell, cell_of, elements, acquired, retained, released, deepest, cells_taken}
 use Rattle.semantics.specs.Machine.{is_count}
 use Rattle.words.specs.Words.{checked}
-use Rattle.store.specs.Acquiring.{Gained, next_cell, appended_all}
+use Rattle.store.specs.declared.Gained.{Gained}
+use Rattle.store.specs.Acquiring.{next_cell, appended_all}
 use Rattle.kinds.specs.declared.Atom.{Atom}
 use Rattle.kinds.specs.declared.Atom.TheVariants.{Name}
 use Rattle.machine_code.specs.declared.Loop as P

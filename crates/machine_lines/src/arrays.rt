@@ -6,14 +6,16 @@ ghost use Rattle.semantics.specs.Words.{store_of};
 ghost use Rattle.store.specs.Acquiring.{appended_all};
 ghost use Rattle.machine_code.specs.Reading.{Cut};
 ghost use Rattle.machine_frames.specs.Frames.{frame_words, word_of, words_at, element_depth};
-ghost use Rattle.machine_frames.specs.Work.{memory, Ends};
+ghost use Rattle.machine_frames.specs.Work.{memory, shown, Ends};
 ghost use Rattle.machine_lines.specs.Lines.{Appended, elements_by, retained_times, retained_copies};
 ghost use Rattle.machine_lines.specs.Lines.{literal_line, array_made, array_line};
 
-use answers::{BAD_COUNT, OUT_OF_CELLS, OUT_OF_STEPS};
+use answers::Stop;
 use kinds::Atom;
-use machine_frames::{FRAME_WORDS, Out};
-use store::Acquired;
+use machine_frames::{Done, FRAME_WORDS, Halted};
+
+// How many elements an array has at most.
+const MOST_ELEMENTS: usize = 16;
 
 // Appends the words of the atoms that stand from a position on, at most 16, to a cell; how many they are.
 fn append_atoms(
@@ -31,17 +33,15 @@ fn append_atoms(
     ensures { Appended (words_at 16 kinds.now operands.now calls env.now at) c result
         (store_of slots.old heads.old) (store_of slots.new heads.new) }
 {
-    let mut n: usize = 0;
-    while n < 16 {
+    for n in 0..MOST_ELEMENTS {
         if !machine_code::atom_stands(kinds, at + n) {
             return n;
         }
         let a = machine_code::atom_at(kinds, operands, at + n);
         let w = machine_frames::word_of(env, calls, a);
         store::append(slots, heads, c, w);
-        n = n + 1;
     }
-    n
+    MOST_ELEMENTS
 }
 
 // A new array of the atoms that follow the line.
@@ -56,33 +56,41 @@ pub fn work_literal(
     depth: u8,
     at: usize,
     steps: u64,
-) -> Out
+) -> Result<Done, Halted>
     requires { (at < length kinds.now) × (calls < 32) × (length env.old ≡ frame_words)
         × Cut kinds.now operands.now }
     ensures { Ends (literal_line kinds.now operands.now calls x depth at steps
         (memory (store_of slots.old heads.old) env.old))
-        result slots.new heads.new env.new }
+        (shown result) slots.new heads.new env.new }
 {
     if steps == 0 {
-        return machine_frames::halted(OUT_OF_STEPS, steps);
+        return machine_frames::halt(Stop::OutOfSteps, steps);
     }
-    match store::acquire_empty(slots, heads, depth as u32, machine_frames::level(env)) {
-        Acquired::Cell(c, left) => {
-            let n = append_atoms(kinds, operands, slots, heads, env, calls, c, at + 1);
-            machine_frames::note_level(env, left);
-            let w = machine_frames::word_from(c);
-            machine_frames::bind(env, calls, x, w);
-            machine_frames::done(w, at + 1 + n, steps - 1)
-        }
-        Acquired::NoneFree => machine_frames::halted(OUT_OF_CELLS, steps - 1),
-    }
+    let depth = depth as u32;
+    let Some(gained) = store::acquire_empty(slots, heads, depth, machine_frames::level(env)) else {
+        return machine_frames::halt(Stop::OutOfCells, steps - 1);
+    };
+    let n = append_atoms(
+        kinds,
+        operands,
+        slots,
+        heads,
+        env,
+        calls,
+        gained.cell,
+        at + 1,
+    );
+    machine_frames::note_level(env, gained.left);
+    let w = machine_frames::word_from(gained.cell);
+    machine_frames::bind(env, calls, x, w);
+    machine_frames::go_on(w, at + 1 + n, steps - 1)
 }
 
 // Whether an array can have so many elements.
 fn is_count(n: i64) -> bool
     ensures { result ≡ is_count n }
 {
-    if n < 0 { false } else { n <= 16 }
+    n >= 0 && n <= 16
 }
 
 // The element at a position: the position itself, or a copy.
@@ -103,11 +111,8 @@ fn append_elements(slots: &mut [i64], heads: &mut [u32], c: usize, counting: boo
     ensures { store_of slots.new heads.new
         ≡ appended_all c (elements_by counting w n) (store_of slots.old heads.old) }
 {
-    let mut i: usize = 0;
-    while i < n {
-        let v = element(counting, w, n, i);
-        store::append(slots, heads, c, v);
-        i = i + 1;
+    for i in 0..n {
+        store::append(slots, heads, c, element(counting, w, n, i));
     }
 }
 
@@ -116,10 +121,8 @@ fn retain_times(slots: &[i64], heads: &mut [u32], c: usize, n: usize)
     ensures { store_of slots.now heads.new
         ≡ retained_times n c (store_of slots.now heads.old) }
 {
-    let mut i: usize = 0;
-    while i < n {
+    for _ in 0..n {
         store::retain(slots, heads, c);
-        i = i + 1;
     }
 }
 
@@ -143,28 +146,26 @@ fn make_array(
     depth: u32,
     count: i64,
     steps: u64,
-) -> Out
+) -> Result<Done, Halted>
     requires { length env.old ≡ frame_words }
     ensures { Ends (array_made counting w depth count steps
         (memory (store_of slots.old heads.old) env.old))
-        result slots.new heads.new env.new }
+        (shown result) slots.new heads.new env.new }
 {
     if steps == 0 {
-        return machine_frames::halted(OUT_OF_STEPS, steps);
+        return machine_frames::halt(Stop::OutOfSteps, steps);
     }
     if !is_count(count) {
-        return machine_frames::halted(BAD_COUNT, steps - 1);
+        return machine_frames::halt(Stop::BadCount, steps - 1);
     }
     let n = count as usize;
-    match store::acquire_empty(slots, heads, depth, machine_frames::level(env)) {
-        Acquired::Cell(c, left) => {
-            machine_frames::note_level(env, left);
-            append_elements(slots, heads, c, counting, w, n);
-            retain_copies(slots, heads, depth, w, n);
-            machine_frames::done(machine_frames::word_from(c), 0, steps - 1)
-        }
-        Acquired::NoneFree => machine_frames::halted(OUT_OF_CELLS, steps - 1),
-    }
+    let Some(gained) = store::acquire_empty(slots, heads, depth, machine_frames::level(env)) else {
+        return machine_frames::halt(Stop::OutOfCells, steps - 1);
+    };
+    machine_frames::note_level(env, gained.left);
+    append_elements(slots, heads, gained.cell, counting, w, n);
+    retain_copies(slots, heads, depth, w, n);
+    machine_frames::go_on(machine_frames::word_from(gained.cell), 0, steps - 1)
 }
 
 // An array that counts from 0.
@@ -177,11 +178,11 @@ pub fn work_iota(
     a: Atom,
     next: usize,
     steps: u64,
-) -> Out
+) -> Result<Done, Halted>
     requires { (calls < 32) × (length env.old ≡ frame_words) }
     ensures { Ends (array_line calls x next true (pos 0) 0 (word_of calls env.old a) steps
         (memory (store_of slots.old heads.old) env.old))
-        result slots.new heads.new env.new }
+        (shown result) slots.new heads.new env.new }
 {
     let n = machine_frames::word_of(env, calls, a);
     let made = make_array(slots, heads, env, true, 0, 0, n, steps);
@@ -200,12 +201,12 @@ pub fn work_replicate(
     b: Atom,
     next: usize,
     steps: u64,
-) -> Out
+) -> Result<Done, Halted>
     requires { (calls < 32) × (length env.old ≡ frame_words) }
     ensures { Ends (array_line calls x next false (word_of calls env.old b)
         (element_depth table.now calls x env.old) (word_of calls env.old a) steps
         (memory (store_of slots.old heads.old) env.old))
-        result slots.new heads.new env.new }
+        (shown result) slots.new heads.new env.new }
 {
     let n = machine_frames::word_of(env, calls, a);
     let w = machine_frames::word_of(env, calls, b);

@@ -10,26 +10,24 @@ ghost use Rattle.semantics.specs.Words.{store_of};
 ghost use Rattle.words.specs.Words.{exact_outcome, checked};
 ghost use Rattle.machine_frames.specs.Frames.{frame_words};
 ghost use Rattle.machine_code.specs.Reading.{Cut};
-ghost use Rattle.machine_frames.specs.Work.{left, memory, Ends};
+ghost use Rattle.machine_frames.specs.Work.{left, memory, shown, Ends};
 ghost use Rattle.machine_lines.specs.Lines.{operation_of, operation_line, index_line, length_line, leaf};
 
-use answers::{INDEX_OUT_OF_RANGE, OUT_OF_STEPS, OVERFLOW};
+use answers::Stop;
 use kinds::Atom;
 use machine_code::Line;
-use machine_frames::{FRAME_WORDS, NO_LINE, Out};
-use words::Exact;
+use machine_frames::{Done, FRAME_WORDS, Halted};
 
 // The exact result of an operation, if it is in 64 bits.
-fn operate(kind: u8, a: i64, b: i64) -> Exact
+#[tactic(auto, using(crate::proofs::Lines::less_fits))]
+fn operate(kind: u8, a: i64, b: i64) -> Option<i64>
     ensures { exact_outcome result ≡ checked (exact (operation_of kind) a b) }
 {
-    if kind == kinds::SUM {
-        return words::exact_sum(a, b);
+    match kind {
+        kinds::SUM => words::exact_sum(a, b),
+        kinds::DIFFERENCE => words::exact_difference(a, b),
+        _ => Some(words::is_less(a, b)),
     }
-    if kind == kinds::DIFFERENCE {
-        return words::exact_difference(a, b);
-    }
-    Exact::Value(words::is_less(a, b))
 }
 
 // A sum, a difference or a comparison.
@@ -42,22 +40,20 @@ fn work_operation(
     b: Atom,
     next: usize,
     steps: u64,
-) -> Out
+) -> Result<Done, Halted>
     requires { (calls < 32) × (length env.old ≡ frame_words) }
-    ensures { left result env.new ≡ operation_line calls kind x a b next steps env.old }
+    ensures { left (shown result) env.new ≡ operation_line calls kind x a b next steps env.old }
 {
     if steps == 0 {
-        return machine_frames::halted(OUT_OF_STEPS, steps);
+        return machine_frames::halt(Stop::OutOfSteps, steps);
     }
     let v = machine_frames::word_of(env, calls, a);
     let w = machine_frames::word_of(env, calls, b);
-    match operate(kind, v, w) {
-        Exact::Value(z) => {
-            machine_frames::bind(env, calls, x, z);
-            machine_frames::done(z, next, steps - 1)
-        }
-        Exact::Overflow => machine_frames::halted(OVERFLOW, steps - 1),
-    }
+    let Some(z) = operate(kind, v, w) else {
+        return machine_frames::halt(Stop::Overflow, steps - 1);
+    };
+    machine_frames::bind(env, calls, x, z);
+    machine_frames::go_on(z, next, steps - 1)
 }
 
 // An element of an array.
@@ -71,26 +67,22 @@ fn work_index(
     b: Atom,
     next: usize,
     steps: u64,
-) -> Out
+) -> Result<Done, Halted>
     requires { (calls < 32) × (length env.old ≡ frame_words) }
-    ensures { left result env.new
+    ensures { left (shown result) env.new
         ≡ index_line (store_of slots.now heads.now) calls x a b next steps env.old }
 {
     if steps == 0 {
-        return machine_frames::halted(OUT_OF_STEPS, steps);
+        return machine_frames::halt(Stop::OutOfSteps, steps);
     }
     let cell = store_words::named_cell(machine_frames::word_of(env, calls, a));
     let w = machine_frames::word_of(env, calls, b);
-    if w < 0 {
-        return machine_frames::halted(INDEX_OUT_OF_RANGE, steps - 1);
+    if w < 0 || store_words::read_length(slots, heads, cell) <= w as usize {
+        return machine_frames::halt(Stop::IndexOutOfRange, steps - 1);
     }
-    let i = w as usize;
-    if store_words::read_length(slots, heads, cell) <= i {
-        return machine_frames::halted(INDEX_OUT_OF_RANGE, steps - 1);
-    }
-    let v = store_words::read_slot(slots, heads, cell, i);
+    let v = store_words::read_slot(slots, heads, cell, w as usize);
     machine_frames::bind(env, calls, x, v);
-    machine_frames::done(v, next, steps - 1)
+    machine_frames::go_on(v, next, steps - 1)
 }
 
 // The length of an array.
@@ -103,18 +95,18 @@ fn work_length(
     a: Atom,
     next: usize,
     steps: u64,
-) -> Out
+) -> Result<Done, Halted>
     requires { (calls < 32) × (length env.old ≡ frame_words) }
-    ensures { left result env.new
+    ensures { left (shown result) env.new
         ≡ length_line (store_of slots.now heads.now) calls x a next steps env.old }
 {
     if steps == 0 {
-        return machine_frames::halted(OUT_OF_STEPS, steps);
+        return machine_frames::halt(Stop::OutOfSteps, steps);
     }
     let cell = store_words::named_cell(machine_frames::word_of(env, calls, a));
     let n = machine_frames::word_from(store_words::read_length(slots, heads, cell));
     machine_frames::bind(env, calls, x, n);
-    machine_frames::done(n, next, steps - 1)
+    machine_frames::go_on(n, next, steps - 1)
 }
 
 // A line that works no tree.
@@ -129,12 +121,12 @@ pub fn work_leaf(
     calls: usize,
     at: usize,
     steps: u64,
-) -> Out
+) -> Result<Done, Halted>
     requires { (at < length kinds.now) × (calls < 32) × (length env.old ≡ frame_words)
         × Cut kinds.now operands.now }
     ensures { Ends (leaf kinds.now operands.now table.now calls at steps
         (memory (store_of slots.old heads.old) env.old) l)
-        result slots.new heads.new env.new }
+        (shown result) slots.new heads.new env.new }
 {
     match l {
         Line::Operation(kind, x, a, b) => work_operation(env, calls, kind, x, a, b, at + 3, steps),
@@ -159,14 +151,14 @@ pub fn work_leaf(
         Line::Retain(x) => {
             let cell = store_words::named_cell(machine_frames::word_of(env, calls, Atom::Name(x)));
             store::retain(slots, heads, cell);
-            machine_frames::done(0, at + 1, steps)
+            machine_frames::go_on(0, at + 1, steps)
         }
         Line::Release(x) => {
             let cell = store_words::named_cell(machine_frames::word_of(env, calls, Atom::Name(x)));
             let freed = store_release::release(slots, heads, cell, 4);
             machine_frames::raise_level(env, freed);
-            machine_frames::done(0, at + 1, steps)
+            machine_frames::go_on(0, at + 1, steps)
         }
-        _ => machine_frames::halted(NO_LINE, steps),
+        _ => machine_frames::lost(steps),
     }
 }

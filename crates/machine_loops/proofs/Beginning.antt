@@ -2,14 +2,14 @@
 use Rattle.prelude.specs.Kit.{ℕ, ◌<◌, arith, true, false, Bool, cond, true≢false, ◌≡◌, refl, ◌∙◌, sym, ap, subst, ap₂}
 use Rattle.prelude.specs.Kit.{List, [], ◌∷◌, map, eqb, ltb, ℤ, pos, length, ne_eqb, eq-eqb, ltb-true, ltb-false, tag_of}
 use Rattle.prelude.specs.Kit.{OneOf, miss}
+use Rattle.std.specs.Prelude.{Option, Some, None}
 use Rattle.semantics.specs.Kinds.{Loop, rewriting}
 use Rattle.semantics.specs.Store.{Store, Cell as C, cell, cell_of, clear, elements, acquired, has_free, cell_count}
 use Rattle.semantics.specs.Machine.{looped_over}
 use Rattle.semantics.specs.Words.{store_of, cells_in}
 use Rattle.store_words.proofs.CellWords.{in_cells, store_size, cell_out, length_out}
-use Rattle.store.specs.Acquiring.{Gained, gained, acquired_outcome, next_cell}
-use Rattle.store.specs.declared.Acquired.{Acquired}
-use Rattle.store.specs.declared.Acquired.TheVariants.{Cell, NoneFree}
+use Rattle.store.specs.declared.Gained.{Gained}
+use Rattle.store.specs.Acquiring.{acquired_outcome, next_cell}
 use Rattle.store.proofs.Filling.{cell_given}
 use Rattle.kinds.specs.declared.Atom.{Atom}
 use Rattle.machine_code.specs.declared.Loop as P
@@ -21,9 +21,6 @@ use Rattle.machine_lines.specs.Lines.{noted_by, acquired_given, gave, kind_of, a
 use Rattle.machine_loops.specs.declared.Way.{Way}
 use Rattle.machine_loops.specs.declared.Way.TheVariants.{Fill, Keep, Hand, Overwrite}
 use Rattle.machine_loops.specs.declared.Passes.{Passes}
-use Rattle.machine_loops.specs.declared.First.{First}
-use Rattle.machine_loops.specs.declared.First.TheVariants.{Word, NoneFree as NoCell}
-use Rattle.machine_loops.specs.declared.Begun.TheVariants.{NoneFree as NoPasses}
 use Rattle.machine_loops.specs.Loops.{way_of, new_carried, is_alone, carry_first, Within}
 use Rattle.machine_loops.specs.Loops.{ResultWithin, NewCarries, Carries, Readied, Begins}
 
@@ -42,14 +39,14 @@ result_kept Hand slots slots' heads heads' c s h w = tt
 result_kept Overwrite slots slots' heads heads' c s h w = within_kept slots slots' heads heads' c s h w
 
 -- the cell that an acquire answers
-pub cell_within : (slots : List ℤ) (heads : List ℕ) (free : ℕ) (q : Acquired) (c left : ℕ) →
-    acquired_outcome q ≡ next_cell free (store_of slots heads) → q ≡ Cell c left → Within slots heads c
+pub cell_within : (slots : List ℤ) (heads : List ℕ) (free : ℕ) (q : Option Gained) (g : Gained) →
+    acquired_outcome q ≡ next_cell free (store_of slots heads) → q ≡ Some g → Within slots heads g.cell
 unfolding has_free
-cell_within slots heads free q c left e h =
-    let given = cell_given free (store_of slots heads) (gained c left) (ap acquired_outcome (sym h) ∙ e) in
-    in_cells slots heads c (omega (
+cell_within slots heads free q g e h =
+    let given = cell_given free (store_of slots heads) g (ap acquired_outcome (sym h) ∙ e) in
+    in_cells slots heads g.cell (omega (
       arith,
-      ap (λ (g : Gained). g.cell) given.1,
+      ap (λ (x : Gained). x.cell) given.1,
       ltb-true (store_of slots heads).first (cell_count (store_of slots heads)) given.0,
       store_size slots heads,
     ))
@@ -77,32 +74,32 @@ module _ (calls : ℕ) (env : List ℤ) (l : P.Loop) where
   -- a reduce's start
   pub start_carried : (p q : ℕ) (b a : Atom) → l ≡ Reduce p q b a → (d : ℕ) (slots : List ℤ) (heads : List ℕ) (w : ℤ) →
       w ≡ word_of calls env b →
-      Carries (kind_of l) d (words l) (memory (store_of slots heads) env) slots heads env (Word w)
+      Carries (kind_of l) d (words l) (memory (store_of slots heads) env) slots heads env (Some w)
   start_carried p q b a e d slots heads w we =
       subst (λ (m : P.Loop). Carries (kind_of m) d (words m) (memory (store_of slots heads) env) slots heads env
-      (Word w)) (sym e) (
+      (Some w)) (sym e) (
         λ s. ap (λ (y : ℤ). ran (out 0 y 0 s) (memory (store_of slots heads) env)) (sym we),
         tt,
       )
 
 -- a new cell for the result
 module _ (d : ℕ) (σ : Store) (env : List ℤ) (free : ℕ) (fe : free ≡ level_of env) (slots : List ℤ) (heads : List ℕ)
-    (q : Acquired) (qe : acquired_outcome q ≡ next_cell free σ) (store : store_of slots heads ≡ acquired d [] σ) where
+    (q : Option Gained) (qe : acquired_outcome q ≡ next_cell free σ) (store : store_of slots heads ≡ acquired d [] σ) where
   cell_is : (s : ℕ) → new_carried d s (memory σ env)
       ≡ gave s (memory (store_of slots heads) (noted_by (acquired_outcome q) env)) (acquired_given (acquired_outcome q))
   cell_is s =
       let e = sym (qe ∙ ap (λ (n : ℕ). next_cell n σ) fe) in
       λ i. gave s (memory (sym store i) (noted_by (e i) env)) (acquired_given (e i))
 
-  pub cell_carried : (c n : ℕ) → q ≡ Cell c n → (env' : List ℤ) → env' ≡ noted n env → Within slots heads c → (z : ℤ) →
-      z ≡ pos c → NewCarries d (memory σ env) slots heads env' (Word z)
+  pub cell_carried : (g : Gained) → q ≡ Some g → (env' : List ℤ) → env' ≡ noted g.left env →
+      Within slots heads g.cell → (z : ℤ) → z ≡ pos g.cell → NewCarries d (memory σ env) slots heads env' (Some z)
   unfolding cell_of
-  cell_carried c n e env' ne w z ze = (
+  cell_carried g e env' ne w z ze = (
     λ s. cell_is s ∙ rw (e, ze, ne) refl,
     subst (λ (y : ℤ). Within slots heads (cell_of y)) (sym ze) w,
   )
 
-  pub none_carried : q ≡ NoneFree → NewCarries d (memory σ env) slots heads env NoCell
+  pub none_carried : q ≡ None → NewCarries d (memory σ env) slots heads env None
   none_carried e s = cell_is s ∙ rw e refl
 
 -- the loops that always take a cell
@@ -110,16 +107,16 @@ abbrev filling : List ℕ
 filling = 0 ∷ 1 ∷ []
 
 module _ (l : P.Loop) (d : ℕ) (ws : List ℤ) (m : Memory) (slots : List ℤ) (heads : List ℕ) (env : List ℤ) where
-  pub new_carries : OneOf filling (tag_of the_type l) → (r : First) → NewCarries d m slots heads env r →
+  pub new_carries : OneOf filling (tag_of the_type l) → (r : Option ℤ) → NewCarries d m slots heads env r →
       Carries (kind_of l) d ws m slots heads env r
   new_carries h r n = go l h r n
     where
-      go : (k : P.Loop) → OneOf filling (tag_of the_type k) → (r : First) → NewCarries d m slots heads env r →
+      go : (k : P.Loop) → OneOf filling (tag_of the_type k) → (r : Option ℤ) → NewCarries d m slots heads env r →
           Carries (kind_of k) d ws m slots heads env r
-      go (Map p a) g (Word w) n = n
-      go (Map p a) g NoCell n = n
-      go (Filter p a) g (Word w) n = n
-      go (Filter p a) g NoCell n = n
+      go (Map p a) g (Some w) n = n
+      go (Map p a) g None n = n
+      go (Filter p a) g (Some w) n = n
+      go (Filter p a) g None n = n
       go (Reduce p q b a) g r n = absurd (miss filling 2 tt g)
       go (Rewrite p a) g r n = absurd (miss filling 3 tt g)
 
@@ -163,7 +160,7 @@ module _ (calls : ℕ) (env : List ℤ) (l : P.Loop) (p : ℕ) (a : Atom) (le : 
   here = memory (store_of slots heads) env
 
   -- what begins a loop that rewrites begins this one
-  as_rewrite : (slots' : List ℤ) (heads' : List ℕ) (env' : List ℤ) (r : First) →
+  as_rewrite : (slots' : List ℤ) (heads' : List ℕ) (env' : List ℤ) (r : Option ℤ) →
       Carries rewriting d (w ∷ []) here slots' heads' env' r →
       Carries (kind_of l) d (words calls env l l) here slots' heads' env' r
   as_rewrite slots' heads' env' r =
@@ -174,24 +171,24 @@ module _ (calls : ℕ) (env : List ℤ) (l : P.Loop) (p : ℕ) (a : Atom) (le : 
 
   -- nothing else refers to the array
   pub alone_carried : is_alone (store_of slots heads) w ≡ true →
-      Carries (kind_of l) d (words calls env l l) here slots heads env (Word w)
-  alone_carried h = as_rewrite slots heads env (Word w) (
+      Carries (kind_of l) d (words calls env l l) here slots heads env (Some w)
+  alone_carried h = as_rewrite slots heads env (Some w) (
     λ s. rw h,
     rewrite_within (eqb (cell_of w) (cell_of w)) slots heads (cell_of w) (alone_within slots heads w h),
   )
 
   -- something does
   pub shared_carried : is_alone (store_of slots heads) w ≡ false → (slots' : List ℤ) (heads' : List ℕ) (env' : List ℤ)
-      (r : First) → NewCarries d here slots' heads' env' r →
+      (r : Option ℤ) → NewCarries d here slots' heads' env' r →
       Carries (kind_of l) d (words calls env l l) here slots' heads' env' r
   shared_carried h slots' heads' env' r n = as_rewrite slots' heads' env' r (go r n)
     where
-      go : (y : First) → NewCarries d here slots' heads' env' y → Carries rewriting d (w ∷ []) here slots' heads' env' y
-      go (Word v) n = (
+      go : (y : Option ℤ) → NewCarries d here slots' heads' env' y → Carries rewriting d (w ∷ []) here slots' heads' env' y
+      go (Some v) n = (
         λ s. rw h (n.0 s),
         rewrite_within (eqb (cell_of v) (cell_of w)) slots' heads' (cell_of v) n.1,
       )
-      go NoCell n = λ s. rw h (n s)
+      go None n = λ s. rw h (n s)
 
 -- ---- the passes
 
@@ -204,7 +201,7 @@ module _ (k : Loop) (p q d : ℕ) (ws : List ℤ) (slots slots' : List ℤ) (hea
   -- the passes of a loop into whose first a word is carried
   pub readied : (l : Passes) → l.way ≡ way_of k depth l.from l.carried → l.first ≡ p → l.second ≡ q →
       l.from ≡ cell_of (looped_over k ws) → l.count ≡ length (elements (cell (store_of slots heads) l.from)) →
-      Carries k depth ws before slots' heads' env' (Word l.carried) →
+      Carries k depth ws before slots' heads' env' (Some l.carried) →
       Readied k p q d ws before slots' heads' env' l
   readied l way first second from count carries = record {
     way = way ∙ ap₂ (λ (n c : ℕ). way_of k n c l.carried) de from;
@@ -221,6 +218,6 @@ module _ (k : Loop) (p q d : ℕ) (ws : List ℤ) (slots slots' : List ℤ) (hea
     };
   }
 
-  pub dry_begun : Carries k depth ws before slots' heads' env' NoCell →
-      Begins k p q d ws before slots' heads' env' NoPasses
+  pub dry_begun : Carries k depth ws before slots' heads' env' None →
+      Begins k p q d ws before slots' heads' env' None
   dry_begun carries s = ap (λ (n : ℕ). carry_first k n ws s before) (sym de) ∙ carries s

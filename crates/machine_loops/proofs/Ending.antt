@@ -1,20 +1,19 @@
 -- Laws of what a pass carries on, and of what a loop ends with.
 use Rattle.prelude.specs.Kit.{ℕ, ◌-◌, arith, true, false, Bool, cond, ◌≡◌, refl, ◌∙◌, sym, ap, subst, ap₂, List, []}
 use Rattle.prelude.specs.Kit.{◌∷◌, ℤ, length, ne_eqb, eq-eqb, tag_of, w64, of_z, SFits, OneOf, miss}
+use Rattle.std.specs.Prelude.{Option, Some, None}
 use Rattle.semantics.specs.Outcome.{done, stop}
 use Rattle.semantics.specs.Number.{is_answer}
 use Rattle.semantics.specs.Store.{Store, cell_of, appended, overwritten, retained, cells_taken}
 use Rattle.semantics.specs.Words.{store_of}
 use Rattle.store_release.specs.Releasing.{Releases}
-use Rattle.machine_frames.specs.declared.Out.{Out}
+use Rattle.machine_frames.specs.Work.{Out}
 use Rattle.machine_frames.specs.Frames.{raised}
 use Rattle.machine_frames.specs.Work.{Memory, memory, ran, out, bound}
 use Rattle.machine_frames.proofs.Levels.{raised_long}
 use Rattle.machine_frames.proofs.Tests.{guard_zero, guard_not}
 use Rattle.machine_loops.specs.declared.Way.{Way}
 use Rattle.machine_loops.specs.declared.Way.TheVariants.{Fill, Keep, Hand, Overwrite}
-use Rattle.machine_loops.specs.declared.Next.{Next}
-use Rattle.machine_loops.specs.declared.Next.TheVariants.{Word, BadGuard}
 use Rattle.machine_loops.specs.contracts.Way.{the_type}
 use Rattle.machine_loops.specs.Loops.{retained_if, kept, loop_ended, loop_bound, Within, ResultWithin}
 use Rattle.machine_loops.specs.Loops.{is_taken, carried_word, carried_store, CarriesOn}
@@ -38,31 +37,31 @@ module _ (arrays : Bool) (c : ℕ) (w r : ℤ) (σ : Store) (fits : SFits w64 r)
 
 module _ (way : Way) (into : ℕ) (carried : ℤ) (ce : into ≡ cell_of carried) (v : ℤ) (i : ℕ) (w r : ℤ) (σ τ : Store)
   where
-    abbrev Ended : Next → Way → Type 0
+    abbrev Ended : Option ℤ → Way → Type 0
     Ended n y = CarriesOn y (cell_of carried) v i w r σ τ n
 
-    pub fills : (releases : Bool) → way ≡ Fill releases → τ ≡ appended into r σ → Ended (Word v) way
+    pub fills : (releases : Bool) → way ≡ Fill releases → τ ≡ appended into r σ → Ended (Some v) way
     fills releases e h =
-        subst (Ended (Word v)) (sym e) (record { is = ap (done v) (h ∙ ap (λ (c : ℕ). appended c r σ) ce) })
+        subst (Ended (Some v)) (sym e) (record { is = ap (done v) (h ∙ ap (λ (c : ℕ). appended c r σ) ce) })
 
     module _ (arrays : Bool) (g : way ≡ Keep arrays) where
-      pub keeps_on : is_answer r ≡ true → (e : ℤ) → e ≡ w → τ ≡ kept arrays into e r σ → Ended (Word v) way
-      keeps_on answer e we h = subst (Ended (Word v)) (sym g)
+      pub keeps_on : is_answer r ≡ true → (e : ℤ) → e ≡ w → τ ≡ kept arrays into e r σ → Ended (Some v) way
+      keeps_on answer e we h = subst (Ended (Some v)) (sym g)
           (record { is = rw answer (ap (done v) (h ∙ ap₂ (λ (c : ℕ) (y : ℤ). kept arrays c y r σ) ce we)) })
 
-      pub doubts : is_answer r ≡ false → τ ≡ σ → Ended BadGuard way
-      doubts none h = subst (Ended BadGuard) (sym g) (record { is = rw none (ap (stop 28) h) })
+      pub doubts : is_answer r ≡ false → τ ≡ σ → Ended None way
+      doubts none h = subst (Ended None) (sym g) (record { is = rw none (ap (stop 28) h) })
 
-    pub hands : way ≡ Hand → τ ≡ σ → Ended (Word r) way
-    hands e h = subst (Ended (Word r)) (sym e) (record { is = ap (done r) h })
+    pub hands : way ≡ Hand → τ ≡ σ → Ended (Some r) way
+    hands e h = subst (Ended (Some r)) (sym e) (record { is = ap (done r) h })
 
-    pub overwrites : way ≡ Overwrite → τ ≡ overwritten into i r σ → Ended (Word v) way
+    pub overwrites : way ≡ Overwrite → τ ≡ overwritten into i r σ → Ended (Some v) way
     overwrites e h =
-        subst (Ended (Word v)) (sym e) (record { is = ap (done v) (h ∙ ap (λ (c : ℕ). overwritten c i r σ) ce) })
+        subst (Ended (Some v)) (sym e) (record { is = ap (done v) (h ∙ ap (λ (c : ℕ). overwritten c i r σ) ce) })
 
 -- what the answer says of what the tree gave
 module _ {way : Way} {c : ℕ} {v : ℤ} {i : ℕ} {w r : ℤ} {σ τ : Store} where
-  pub taken : {u : ℤ} → CarriesOn way c v i w r σ τ (Word u) →
+  pub taken : {u : ℤ} → CarriesOn way c v i w r σ τ (Some u) →
       (is_taken way r ≡ true) × (u ≡ carried_word way v r) × (τ ≡ carried_store way c i w r σ)
   taken {u} h = go (is_taken way r) refl h.is
     where
@@ -72,7 +71,7 @@ module _ {way : Way} {c : ℕ} {v : ℤ} {i : ℕ} {w r : ℤ} {σ τ : Store} w
       go true e g = (e, cc, cc)
       go false e g = absurd (let z : ◌≡◌ {A = ℕ} 0 1 = cc in omega arith)
 
-  pub not_taken : CarriesOn way c v i w r σ τ BadGuard → (is_taken way r ≡ false) × (τ ≡ σ)
+  pub not_taken : CarriesOn way c v i w r σ τ None → (is_taken way r ≡ false) × (τ ≡ σ)
   not_taken h = go (is_taken way r) refl h.is
     where
       go : (t : Bool) → is_taken way r ≡ t →

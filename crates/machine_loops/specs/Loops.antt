@@ -1,23 +1,17 @@
 -- What a loop begins with, what a pass begins with, and what it carries on to the next, on the memory of the machine.
-use Rattle.std.specs.Prelude.{◌≡◌, Bool, true, false, cond, not, List, [], ℕ, ◌+◌, ◌*◌, ◌<◌, ℤ, eqb, length}
+use Rattle.std.specs.Prelude.{◌≡◌, Bool, true, false, cond, not, Option, Some, None, List, [], ℕ, ◌+◌, ◌*◌, ◌<◌, ℤ, eqb, length}
 use Rattle.semantics.specs.Outcome.{Outcome, done, stop}
 use Rattle.semantics.specs.Number.{is_zero, is_answer}
 use Rattle.semantics.specs.Kinds.{Loop, mapping, filtering, reducing, rewriting}
 use Rattle.semantics.specs.Store.{Store, cell, cell_of, appended, overwritten, retained}
 use Rattle.semantics.specs.Machine.{argument, looped_over}
 use Rattle.semantics.specs.Words.{store_of}
-use Rattle.machine_frames.specs.declared.Out.{Out}
+use Rattle.machine_frames.specs.Work.{Out}
 use Rattle.machine_frames.specs.Work.{Memory, memory, Ran, ran, out, halted, bound, goes_on}
 use Rattle.machine_lines.specs.Lines.{acquired_given, cell_from, gave, acquired_memory, released_memory, array_of}
 use Rattle.machine_loops.specs.declared.Way.{Way}
 use Rattle.machine_loops.specs.declared.Way.TheVariants.{Fill, Keep, Hand, Overwrite}
 use Rattle.machine_loops.specs.declared.Passes.{Passes}
-use Rattle.machine_loops.specs.declared.Begun.{Begun}
-use Rattle.machine_loops.specs.declared.Begun.TheVariants as B
-use Rattle.machine_loops.specs.declared.Next.{Next}
-use Rattle.machine_loops.specs.declared.Next.TheVariants as N
-use Rattle.machine_loops.specs.declared.First.{First}
-use Rattle.machine_loops.specs.declared.First.TheVariants as F
 
 -- What a pass does with the word that its tree gave; d is the depth of the elements of the loop's result. A map that
 -- rewrites does so if what is carried into its first pass is its own array, the cell c.
@@ -114,29 +108,29 @@ pub record Usable (slots : List ℤ) (heads : List ℕ) (l : Passes) : Type 0 wh
   pub result : ResultWithin l.way slots heads (cell_of l.carried)
 
 -- a new cell is carried into the first pass, or there is none
-abbrev pub NewCarries : ℕ → Memory → List ℤ → List ℕ → List ℤ → First → Type 0
-NewCarries d m slots heads env (F.Word w) =
+abbrev pub NewCarries : ℕ → Memory → List ℤ → List ℕ → List ℤ → Option ℤ → Type 0
+NewCarries d m slots heads env (Some w) =
     ((s : ℕ) → new_carried d s m ≡ ran (out 0 w 0 s) (memory (store_of slots heads) env))
     × Within slots heads (cell_of w)
-NewCarries d m slots heads env F.NoneFree =
+NewCarries d m slots heads env None =
     (s : ℕ) → new_carried d s m ≡ halted 25 s (memory (store_of slots heads) env)
 
 -- a word is carried into the first pass, or there is no cell
-abbrev pub Carries : Loop → ℕ → List ℤ → Memory → List ℤ → List ℕ → List ℤ → First → Type 0
-Carries k d ws m slots heads env (F.Word w) =
+abbrev pub Carries : Loop → ℕ → List ℤ → Memory → List ℤ → List ℕ → List ℤ → Option ℤ → Type 0
+Carries k d ws m slots heads env (Some w) =
     ((s : ℕ) → carry_first k d ws s m ≡ ran (out 0 w 0 s) (memory (store_of slots heads) env))
     × ResultWithin (way_of k d (cell_of (looped_over k ws)) w) slots heads (cell_of w)
-Carries k d ws m slots heads env F.NoneFree =
+Carries k d ws m slots heads env None =
     (s : ℕ) → carry_first k d ws s m ≡ halted 25 s (memory (store_of slots heads) env)
 
 -- document 01's number and values for each case, with the store that a pass leaves: the word that it carries on, or 28
-abbrev pub next_outcome : Next → Store → Outcome Store ℤ
-next_outcome (N.Word u) τ = done u τ
-next_outcome N.BadGuard τ = stop 28 τ
+abbrev pub next_outcome : Option ℤ → Store → Outcome Store ℤ
+next_outcome (Some u) τ = done u τ
+next_outcome None τ = stop 28 τ
 
 -- Pass i, over w, into which v was carried and whose tree gave r, carries a word on; or it does not take r: then it is
 -- 28, and the store stays as it is.
-pub record CarriesOn (way : Way) (c : ℕ) (v : ℤ) (i : ℕ) (w r : ℤ) (σ τ : Store) (n : Next) : Type 0 where
+pub record CarriesOn (way : Way) (c : ℕ) (v : ℤ) (i : ℕ) (w r : ℤ) (σ τ : Store) (n : Option ℤ) : Type 0 where
   pub is : next_outcome n τ ≡
       cond (is_taken way r) (done (carried_word way v r) (carried_store way c i w r σ)) (stop 28 σ)
 
@@ -152,7 +146,7 @@ pub record Readied (k : Loop) (p q d : ℕ) (ws : List ℤ) (m : Memory) (slots 
       carry_first k d ws s m ≡ ran (out 0 l.carried 0 s) (memory (store_of slots heads) env)
   pub usable : Usable slots heads l
 
-abbrev pub Begins : Loop → ℕ → ℕ → ℕ → List ℤ → Memory → List ℤ → List ℕ → List ℤ → Begun → Type 0
-Begins k p q d ws m slots heads env (B.Ready l) = Readied k p q d ws m slots heads env l
-Begins k p q d ws m slots heads env B.NoneFree =
+abbrev pub Begins : Loop → ℕ → ℕ → ℕ → List ℤ → Memory → List ℤ → List ℕ → List ℤ → Option Passes → Type 0
+Begins k p q d ws m slots heads env (Some l) = Readied k p q d ws m slots heads env l
+Begins k p q d ws m slots heads env None =
     (s : ℕ) → carry_first k d ws s m ≡ halted 25 s (memory (store_of slots heads) env)

@@ -7,7 +7,7 @@ ghost use Rattle.semantics.specs.Store.{cell, cell_of, elements};
 ghost use Rattle.semantics.specs.Words.{store_of};
 ghost use Rattle.semantics.specs.Machine.{looped_over};
 ghost use Rattle.machine_frames.specs.Frames.{frame_words, place, word_of, element_depth};
-ghost use Rattle.machine_frames.specs.Work.{memory, Ends};
+ghost use Rattle.machine_frames.specs.Work.{memory, shown, Ends};
 ghost use Rattle.machine_lines.specs.Lines.{kind_of, first_name, second_name, atoms_of};
 ghost use Rattle.machine_loops.specs.Loops.{way_of, begun_frames, retained_if, kept};
 ghost use Rattle.machine_loops.specs.Loops.{loop_ended, loop_bound, Within, ResultWithin, NewCarries, Carries};
@@ -15,8 +15,7 @@ ghost use Rattle.machine_loops.specs.Loops.{CarriesOn, Begins};
 
 use kinds::Atom;
 use machine_code::Loop;
-use machine_frames::{FRAME_WORDS, Out};
-use store::Acquired;
+use machine_frames::{Done, FRAME_WORDS, Halted};
 
 // What a pass does with the word that its tree gave: a map appends it to the result; a filter appends the element if
 // the word is 1 and not if it is 0, and retains it first where it is an array; a reduce hands it on; a map in the cell
@@ -43,37 +42,15 @@ pub struct Passes {
     pub carried: i64,
 }
 
-// What is carried into the first pass: a word, unless there is no cell for the result.
-#[derive(Clone, Copy)]
-pub enum First {
-    Word(i64),
-    NoneFree,
-}
-
-// What a pass carries on: a word, unless a filter's tree gave another word than 1 and 0.
-#[derive(Clone, Copy)]
-pub enum Next {
-    Word(i64),
-    BadGuard,
-}
-
-// How a loop begins: with its passes, unless there is no cell for the result.
-#[derive(Clone, Copy)]
-pub enum Begun {
-    Ready(Passes),
-    NoneFree,
-}
-
 // The word of the array that a loop goes over.
 fn array_word(env: &[i64; FRAME_WORDS], calls: usize, l: Loop) -> i64
     requires { (calls < 32) × (length env.now ≡ frame_words) }
     ensures { result ≡ looped_over (kind_of l) (map (word_of calls env.now) (atoms_of l)) }
 {
     match l {
-        Loop::Map(_, a) => machine_frames::word_of(env, calls, a),
-        Loop::Filter(_, a) => machine_frames::word_of(env, calls, a),
-        Loop::Reduce(_, _, _, a) => machine_frames::word_of(env, calls, a),
-        Loop::Rewrite(_, a) => machine_frames::word_of(env, calls, a),
+        Loop::Map(_, a) | Loop::Filter(_, a) | Loop::Reduce(_, _, _, a) | Loop::Rewrite(_, a) => {
+            machine_frames::word_of(env, calls, a)
+        }
     }
 }
 
@@ -82,10 +59,7 @@ fn first_name(l: Loop) -> u8
     ensures { result ≡ first_name l }
 {
     match l {
-        Loop::Map(p, _) => p,
-        Loop::Filter(p, _) => p,
-        Loop::Reduce(p, _, _, _) => p,
-        Loop::Rewrite(p, _) => p,
+        Loop::Map(p, _) | Loop::Filter(p, _) | Loop::Reduce(p, _, _, _) | Loop::Rewrite(p, _) => p,
     }
 }
 
@@ -94,10 +68,7 @@ fn second_name(l: Loop) -> u8
     ensures { result ≡ second_name l }
 {
     match l {
-        Loop::Map(p, _) => p,
-        Loop::Filter(p, _) => p,
-        Loop::Reduce(_, q, _, _) => q,
-        Loop::Rewrite(p, _) => p,
+        Loop::Map(p, _) | Loop::Filter(p, _) | Loop::Reduce(_, p, _, _) | Loop::Rewrite(p, _) => p,
     }
 }
 
@@ -124,35 +95,30 @@ pub fn rows_before(l: Loop) -> usize
     ensures { (result ≡ 1 + length (atoms_of l)) × (result < 4) }
 {
     match l {
-        Loop::Map(_, _) => 2,
-        Loop::Filter(_, _) => 2,
+        Loop::Map(_, _) | Loop::Filter(_, _) | Loop::Rewrite(_, _) => 2,
         Loop::Reduce(_, _, _, _) => 3,
-        Loop::Rewrite(_, _) => 2,
     }
 }
 
-// A new cell of this element depth for the result.
+// A new cell of this element depth for the result, if one is free: the word that names it.
 fn acquire_result(
     slots: &mut [i64],
     heads: &mut [u32],
     env: &mut [i64; FRAME_WORDS],
     depth: u32,
-) -> First
+) -> Option<i64>
     requires { length env.old ≡ frame_words }
     ensures { NewCarries depth
         (memory (store_of slots.old heads.old) env.old)
         slots.new heads.new env.new result }
 {
-    match store::acquire_empty(slots, heads, depth, machine_frames::level(env)) {
-        Acquired::Cell(c, left) => {
-            machine_frames::note_level(env, left);
-            First::Word(machine_frames::word_from(c))
-        }
-        Acquired::NoneFree => First::NoneFree,
-    }
+    let gained = store::acquire_empty(slots, heads, depth, machine_frames::level(env))?;
+    machine_frames::note_level(env, gained.left);
+    Some(machine_frames::word_from(gained.cell))
 }
 
-// A reduce's start, an array that is to be rewritten, if nothing else refers to it, or a new cell for the result.
+// What is carried into the first pass, a word unless no cell is free for the result: a reduce's start, an array that is
+// to be rewritten, if nothing else refers to it, or a new cell.
 fn carry_first(
     slots: &mut [i64],
     heads: &mut [u32],
@@ -160,18 +126,18 @@ fn carry_first(
     calls: usize,
     l: Loop,
     depth: u32,
-) -> First
+) -> Option<i64>
     requires { (calls < 32) × (length env.old ≡ frame_words) }
     ensures { Carries (kind_of l) depth (map (word_of calls env.old) (atoms_of l))
         (memory (store_of slots.old heads.old) env.old)
         slots.new heads.new env.new result }
 {
     match l {
-        Loop::Reduce(_, _, a, _) => First::Word(machine_frames::word_of(env, calls, a)),
+        Loop::Reduce(_, _, a, _) => Some(machine_frames::word_of(env, calls, a)),
         Loop::Rewrite(_, a) => {
             let w = machine_frames::word_of(env, calls, a);
             if store::is_alone(slots, heads, store_words::named_cell(w)) {
-                First::Word(w)
+                Some(w)
             } else {
                 acquire_result(slots, heads, env, depth)
             }
@@ -180,7 +146,7 @@ fn carry_first(
     }
 }
 
-// Begins a loop whose result is bound to a name.
+// Begins a loop whose result is bound to a name: its passes, unless no cell is free for the result.
 pub fn begin_loop(
     table: &[u8],
     slots: &mut [i64],
@@ -189,7 +155,7 @@ pub fn begin_loop(
     calls: usize,
     x: u8,
     l: Loop,
-) -> Begun
+) -> Option<Passes>
     requires { (calls < 32) × (length env.old ≡ frame_words) }
     ensures { Begins (kind_of l) (first_name l) (second_name l)
         (element_depth table.now calls x env.old)
@@ -202,20 +168,16 @@ pub fn begin_loop(
     let from = store_words::named_cell(array_word(env, calls, l));
     let count = store_words::read_length(slots, heads, from);
     let depth = machine_frames::element_depth(table, env, calls, x);
-    match carry_first(slots, heads, env, calls, l, depth) {
-        First::Word(carried) => {
-            let way = way_of(l, depth, from, carried);
-            Begun::Ready(Passes {
-                way,
-                first,
-                second,
-                from,
-                count,
-                carried,
-            })
-        }
-        First::NoneFree => Begun::NoneFree,
-    }
+    let carried = carry_first(slots, heads, env, calls, l, depth)?;
+    let way = way_of(l, depth, from, carried);
+    Some(Passes {
+        way,
+        first,
+        second,
+        from,
+        count,
+        carried,
+    })
 }
 
 // Begins pass i, into which v is carried: binds its names.
@@ -261,8 +223,8 @@ fn keep(slots: &mut [i64], heads: &mut [u32], arrays: bool, c: usize, w: i64, r:
     }
 }
 
-// Ends pass i, into which v was carried and whose tree gave r: what it carries on. A filter takes 1 and 0 alone, and
-// reads the element by the first name, which is the element's too.
+// Ends pass i, into which v was carried and whose tree gave r: what it carries on, a word unless a filter's tree gave
+// another than 1 and 0. A filter reads the element by the first name, which is the element's too.
 pub fn end_pass(
     slots: &mut [i64],
     heads: &mut [u32],
@@ -272,7 +234,7 @@ pub fn end_pass(
     v: i64,
     i: usize,
     r: i64,
-) -> Next
+) -> Option<i64>
     requires { (calls < 32) × (length env.now ≡ frame_words)
         × ResultWithin l.way slots.old heads.old (cell_of l.carried) }
     ensures { CarriesOn l.way (cell_of l.carried) v i
@@ -280,24 +242,23 @@ pub fn end_pass(
         (store_of slots.old heads.old) (store_of slots.new heads.new) result }
 {
     let into = store_words::named_cell(l.carried);
-    let way = l.way;
-    match way {
+    match l.way {
         Way::Fill(_) => {
             store::append_within(slots, heads, into, r);
-            Next::Word(v)
+            Some(v)
         }
         Way::Keep(arrays) => {
             if !machine_frames::guards::is_answer(r) {
-                return Next::BadGuard;
+                return None;
             }
             let w = machine_frames::word_of(env, calls, Atom::Name(l.first));
             keep(slots, heads, arrays, into, w, r);
-            Next::Word(v)
+            Some(v)
         }
-        Way::Hand => Next::Word(r),
+        Way::Hand => Some(r),
         Way::Overwrite => {
             store::overwrite_within(slots, heads, into, i, r);
-            Next::Word(v)
+            Some(v)
         }
     }
 }
@@ -309,12 +270,9 @@ fn release_array(slots: &mut [i64], heads: &mut [u32], env: &mut [i64; FRAME_WOR
         ≡ loop_ended l.way l.from
         (memory (store_of slots.old heads.old) env.old) }
 {
-    let way = l.way;
-    if let Way::Fill(releases) = way {
-        if releases {
-            let freed = store_release::release(slots, heads, l.from, 4);
-            machine_frames::raise_level(env, freed);
-        }
+    if let Way::Fill(true) = l.way {
+        let freed = store_release::release(slots, heads, l.from, 4);
+        machine_frames::raise_level(env, freed);
     }
 }
 
@@ -326,20 +284,16 @@ pub fn end_loop(
     calls: usize,
     x: u8,
     l: Passes,
-    r: Out,
+    r: Result<Done, Halted>,
     next: usize,
-) -> Out
+) -> Result<Done, Halted>
     requires { (calls < 32) × (length env.old ≡ frame_words) }
-    ensures { Ends (loop_bound l.way l.from calls x next r
+    ensures { Ends (loop_bound l.way l.from calls x next (shown r)
         (memory (store_of slots.old heads.old) env.old))
-        result slots.new heads.new env.new }
+        (shown result) slots.new heads.new env.new }
 {
-    let stop = r.stop;
-    if stop != 0 {
-        return r;
-    }
+    let given = r?;
     release_array(slots, heads, env, l);
-    let w = r.value;
-    machine_frames::bind(env, calls, x, w);
-    machine_frames::done(w, next, r.steps)
+    machine_frames::bind(env, calls, x, given.value);
+    machine_frames::go_on(given.value, next, given.steps)
 }

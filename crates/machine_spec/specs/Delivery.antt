@@ -7,7 +7,8 @@ use Rattle.semantics.specs.Words.{store_of}
 use Rattle.semantics.specs.Sound.{sound_words}
 use Rattle.semantics.specs.Machine.{Program, Delivered, delivered}
 use Rattle.semantics.specs.Calls.{request_fits}
-use Rattle.store.specs.Acquiring.{Gained, next_cell}
+use Rattle.store.specs.declared.Gained.{Gained}
+use Rattle.store.specs.Acquiring.{next_cell}
 use Rattle.machine_frames.specs.Frames.{frame_words, called, lowest_of, levelled}
 use Rattle.machine_frames.specs.Work.{memory, Ran}
 use Rattle.machine_spec.specs.Machine.{Code, names_in, tree_in, tree_on, call_on}

@@ -14,7 +14,7 @@ use Rattle.machine_code.specs.Reading.{name_at, line_at, two_rows, end_in}
 use Rattle.kinds.specs.declared.Atom.{Atom}
 use Rattle.machine_code.specs.declared.Line.{Line}
 use Rattle.machine_code.specs.declared.Line.TheVariants as L
-use Rattle.machine_frames.specs.declared.Out.{Out}
+use Rattle.machine_frames.specs.Work.{Out}
 use Rattle.machine_frames.specs.Frames.{place, function_place, word_of, arguments_within, put_named, called}
 use Rattle.machine_frames.specs.Frames.{element_depth, branch_start, branch_end, level_place, lowest_place, levelled}
 use Rattle.machine_frames.specs.Work.{Memory, memory, Ran, bound, with_store, stepping}

@@ -1,5 +1,5 @@
 -- Laws of the lines that work a tree: one for each way out of the code.
-use Rattle.std.specs.Prelude.{◌≡◌, Bool, true, false, ℕ, suc, ◌+◌, ◌-◌, ℤ, pos, eqb, length}
+use Rattle.std.specs.Prelude.{◌≡◌, Bool, true, false, None, ℕ, suc, ◌+◌, ◌-◌, ℤ, pos, eqb, length}
 use Rattle.std.proofs.Math.Path.{refl, sym, ap}
 use Rattle.std.proofs.Common.{ap₂, subst, ◌∙◌, arith}
 use Rattle.std.proofs.Math.Bool.{cond}
@@ -19,7 +19,7 @@ use Rattle.machine_code.specs.declared.Line.{Line}
 use Rattle.machine_code.specs.declared.Line.TheVariants as L
 use Rattle.machine_code.specs.contracts.Line.{the_type}
 use Rattle.machine_code.proofs.Reading.{less_one}
-use Rattle.machine_frames.specs.declared.Out.{Out}
+use Rattle.machine_frames.specs.Work.{Out}
 use Rattle.machine_frames.specs.Frames.{place, function_place, word_of, arguments_within, put_named, called}
 use Rattle.machine_frames.specs.Frames.{branch_start, branch_end}
 use Rattle.machine_frames.specs.Frames.{element_depth}
@@ -29,7 +29,6 @@ use Rattle.machine_lines.specs.Lines.{first_name, second_name, atoms_of, doing, 
 use Rattle.machine_lines.proofs.Lines.{Told, told, leaf_fewer}
 use Rattle.machine_loops.specs.declared.Way.{Way}
 use Rattle.machine_loops.specs.declared.Passes.{Passes}
-use Rattle.machine_loops.specs.declared.Begun.TheVariants.{NoneFree}
 use Rattle.machine_loops.specs.Loops.{way_of, carry_first, loop_ended, loop_bound, Readied, Begins}
 use Rattle.machine_spec.specs.Machine.{Work, Callee, Code, and_then, binding, branch_worked}
 use Rattle.machine_spec.specs.Machine.{if_worked, if_line}
@@ -214,7 +213,7 @@ module _ (W : Work) (c : Code) (calls x : ℕ) (k : Loop) (p q : ℕ) (us : List
     loop_is = ap (λ (n : ℕ). loop_line W c calls x k p q us at n here) (less_one steps (omega arith))
 
     -- there is no cell for the result
-    pub loop_dry : Begins k p q depth words here sl₁ he₁ en₁ NoneFree → (r : Out) →
+    pub loop_dry : Begins k p q depth words here sl₁ he₁ en₁ None → (r : Out) →
         r ≡ out 25 (pos 0) 0 (steps - 1) → Ended whole steps r sl₁ he₁ en₁
     loop_dry dry r e = part_stops _ steps r sl₁ he₁ en₁ follows
         (loop_is ∙ ap (λ (w : Ran). and_then w follows) (dry (steps - 1)

@@ -9,7 +9,7 @@ use Rattle.machine_code.specs.Reading.{name_at, line_at, two_rows, start_in, end
 use Rattle.kinds.specs.declared.Atom.{Atom}
 use Rattle.machine_code.specs.declared.Line.{Line}
 use Rattle.machine_code.specs.declared.Line.TheVariants as L
-use Rattle.machine_frames.specs.declared.Out.{Out}
+use Rattle.machine_frames.specs.Work.{Out}
 use Rattle.machine_frames.specs.Frames.{place, word_of, arguments_within, called, element_depth, branch_start}
 use Rattle.machine_frames.specs.Frames.{branch_end}
 use Rattle.machine_frames.specs.Work.{no_line, Memory, memory, Ran, ran, out, halted, goes_on, stepping}

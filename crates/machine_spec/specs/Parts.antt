@@ -5,7 +5,7 @@ use Rattle.std.proofs.Math.Path.{ap}
 use Rattle.semantics.specs.Store.{Store, cell_of, appended, overwritten}
 use Rattle.semantics.specs.Words.{store_of}
 use Rattle.machine_code.proofs.Reading.{less_one}
-use Rattle.machine_frames.specs.declared.Out.{Out}
+use Rattle.machine_frames.specs.Work.{Out}
 use Rattle.machine_frames.specs.Work.{Memory, memory, Ran, ran, out, halted}
 use Rattle.machine_loops.specs.declared.Way.{Way}
 use Rattle.machine_loops.specs.declared.Way.TheVariants.{Fill, Keep, Hand, Overwrite}

@@ -10,7 +10,7 @@ use Rattle.kinds.specs.declared.Atom.{Atom}
 use Rattle.machine_code.specs.declared.Line.{Line}
 use Rattle.machine_code.specs.declared.Line.TheVariants as L
 use Rattle.machine_code.proofs.Reading.{less_one, no_bool}
-use Rattle.machine_frames.specs.declared.Out.{Out}
+use Rattle.machine_frames.specs.Work.{Out}
 use Rattle.machine_frames.specs.Frames.{word_of}
 use Rattle.machine_frames.specs.Work.{no_line, Memory, memory, Ran, ran, out, halted}
 use Rattle.machine_spec.specs.Machine.{Work, Callee, Code, and_then, is_end, line_on}

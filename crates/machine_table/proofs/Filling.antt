@@ -1,37 +1,15 @@
 -- The loops over the rows and over the functions.
-use Rattle.prelude.specs.Kit.{ℕ, ◌≤◌, ◌+◌, ◌<◌, ◌-◌, suc, zero, ◌*◌, ◌%◌, ◌/◌, arith, true, false, Bool, cond, ◌≡◌}
-use Rattle.prelude.specs.Kit.{refl, ◌∙◌, sym, ap, List, eqb, length, get_or, set, length-set, ne_eqb, lt-ltb, le-ltb}
+use Rattle.prelude.specs.Kit.{ℕ, ◌≤◌, ◌+◌, ◌<◌, ◌-◌, suc, zero, ◌*◌, ◌%◌, ◌/◌, arith, ◌≡◌}
+use Rattle.prelude.specs.Kit.{refl, ◌∙◌, sym, ap, List, length, get_or, set, length-set, lt-ltb, le-ltb}
 use Rattle.machine_code.specs.Reading.{table_bytes, ends_place, starts_place}
 use Rattle.machine_code.proofs.Reading.{less_one}
-use Rattle.machine_table.specs.Positions.{with_position, trees_of, past_trees, with_end, end_of, ends_from}
+use Rattle.machine_table.specs.Positions.{with_position, with_end, end_of, ends_from}
 use Rattle.machine_table.specs.Positions.{with_start, position_of, starts_from, filled}
 
 pub length_position : (table : List ℕ) (place position : ℕ) → length (with_position table place position) ≡ length table
 length_position table place position =
     length-set (set table place (position % 256)) (place + 1) (position / 256 % 256)
     ∙ length-set table place (position % 256)
-
--- ---- the position after the tree at a row, by the row's kind
-
-module _ (kind : ℕ) (table : List ℕ) (at : ℕ) where
-  pub end_here : kind ≡ 16 → at + 2 ≡ end_of kind table at
-  end_here e = rw e
-
-  pub end_other : (n : ℕ) → (kind ≡ 16 → ⊥) → n ≡ trees_of kind → past_trees n table (at + 1) ≡ end_of kind table at
-  end_other n f e = rw (ne_eqb kind 16 f, e) refl
-
--- a line that has trees, and not one, has two
-pub trees_two : (kind n : ℕ) → n ≡ trees_of kind → (n ≡ 0 → ⊥) → (n ≡ 1 → ⊥) → ◌≡◌ {A = ℕ} 2 (trees_of kind)
-trees_two kind n e f g = go (eqb kind 12) (eqb kind 13) (eqb kind 19) (eqb kind 20) (eqb kind 21) e
-  where
-    go : (a b c d i : Bool) → n ≡ cond a 2 (cond b 1 (cond c 1 (cond d 1 (cond i 1 0)))) →
-        ◌≡◌ {A = ℕ} 2 (cond a 2 (cond b 1 (cond c 1 (cond d 1 (cond i 1 0)))))
-    go true b c d i h = refl
-    go false true c d i h = absurd (g h)
-    go false false true d i h = absurd (g h)
-    go false false false true i h = absurd (g h)
-    go false false false false true h = absurd (g h)
-    go false false false false false h = absurd (f h)
 
 -- ---- the loop over the rows: what is left gives what the whole gives
 
@@ -40,13 +18,10 @@ pub record Ending (kinds : List ℕ) (rows : ℕ) (table₀ table : List ℕ) (a
   pub few : at ≤ rows
   pub long : length table ≡ length table₀
 
-pub ending_starts : (kinds : List ℕ) (rows : ℕ) (table : List ℕ) → Ending kinds rows table table rows
-ending_starts kinds rows table = record { same = refl; few = omega arith; long = refl }
-
 module _ {kinds : List ℕ} {rows : ℕ} {table₀ table : List ℕ} {at : ℕ} (inv : Ending kinds rows table₀ table at) where
-  pub ended : (0 < at → ⊥) → table ≡ ends_from rows kinds table₀
+  pub ended : at ≡ 0 → table ≡ ends_from rows kinds table₀
   unfolding ends_from
-  ended h = sym (inv.same ∙ ap (λ (n : ℕ). ends_from n kinds table) (let z : at ≡ 0 = omega arith in z))
+  ended h = sym (inv.same ∙ ap (λ (n : ℕ). ends_from n kinds table) h)
 
   pub end_more : 0 < at → (end : ℕ) → end ≡ end_of (get_or kinds (at - 1) 0) table (at - 1) → (t : List ℕ) →
       t ≡ with_end table (at - 1) end → Ending kinds rows table₀ t (at - 1)
@@ -66,15 +41,6 @@ pub record Filling (kinds : List ℕ) (functions : ℕ) (places table₀ table :
         ≡ starts_from (functions - f) kinds places f table
     pub few : f ≤ functions
     pub long : length table ≡ length table₀
-
-pub filling_starts : (kinds : List ℕ) (functions : ℕ) (places table : List ℕ) →
-    Filling kinds functions places table table 0
-filling_starts kinds functions places table = record {
-  same = ap (λ (n : ℕ). starts_from n kinds places 0 table)
-      (let z : functions ≡ functions - 0 = omega arith in z);
-  few = omega arith;
-  long = refl;
-}
 
 module _ (n : ℕ) (kinds : List ℕ) (places : List ℕ) (f : ℕ) (table : List ℕ) where
   from_none : n ≡ 0 → starts_from n kinds places f table ≡ table
@@ -118,13 +84,9 @@ module _ {kinds : List ℕ} {functions : ℕ} {places table₀ table : List ℕ}
 
 -- ---- both
 
-module _ (functions rows : ℕ) (kinds : List ℕ) (places table : List ℕ) where
-  pub filled_short : length table < table_bytes → table ≡ filled functions rows kinds places table
-  unfolding filled
-  filled_short h = rw (lt-ltb (length table) table_bytes h)
-
-  pub filled_long : table_bytes ≤ length table → (t u : List ℕ) → t ≡ ends_from rows kinds table →
-      u ≡ starts_from functions kinds places 0 t → u ≡ filled functions rows kinds places table
-  unfolding filled
-  filled_long h t u te ue =
-      ue ∙ ap (starts_from functions kinds places 0) te ∙ rw (le-ltb (length table) table_bytes h)
+pub filled_long : (functions rows : ℕ) (kinds : List ℕ) (places table : List ℕ) → table_bytes ≤ length table →
+    (t u : List ℕ) → t ≡ ends_from rows kinds table → u ≡ starts_from functions kinds places 0 t →
+    u ≡ filled functions rows kinds places table
+unfolding filled
+filled_long functions rows kinds places table h t u te ue =
+    ue ∙ ap (starts_from functions kinds places 0) te ∙ rw (le-ltb (length table) table_bytes h)

@@ -29,10 +29,7 @@ fn trees_of(kind: u8) -> u8
 {
     match kind {
         kinds::IF => 2,
-        kinds::MAP => 1,
-        kinds::FILTER => 1,
-        kinds::REDUCE => 1,
-        kinds::REWRITE => 1,
+        kinds::MAP | kinds::FILTER | kinds::REDUCE | kinds::REWRITE => 1,
         _ => 0,
     }
 }
@@ -45,16 +42,11 @@ fn end_of(kind: u8, table: &[u8], at: usize) -> usize
     if kind == kinds::END {
         return at + 2;
     }
-    let next = machine_code::end_in(table, at + 1);
-    let trees = trees_of(kind);
-    if trees == 0 {
-        return next;
+    let mut next = machine_code::end_in(table, at + 1);
+    for _ in 0..trees_of(kind) {
+        next = machine_code::end_in(table, next);
     }
-    let last = machine_code::end_in(table, next);
-    if trees == 1 {
-        return last;
-    }
-    machine_code::end_in(table, last)
+    next
 }
 
 // Writes the position after the tree that begins at each of the first rows, from the last of them to the first.
@@ -62,9 +54,7 @@ fn fill_ends(kinds: &[u8], rows: usize, table: &mut [u8])
     requires { (rows ≤ length kinds.now) × (rows ≤ 4096) }
     ensures { table.new ≡ ends_from rows kinds.now table.old }
 {
-    let mut at = rows;
-    while 0 < at {
-        at = at - 1;
+    for at in (0..rows).rev() {
         let end = end_of(kinds[at], table, at);
         put_position(table, machine_code::ENDS + 2 * at, end);
     }
@@ -75,12 +65,7 @@ fn position_of(places: &[usize; 32], f: usize) -> usize
     requires { f < 32 }
     ensures { result ≡ position_of places.now f }
 {
-    let first = places[0];
-    let place = places[f];
-    if place < first {
-        return 0;
-    }
-    place - first
+    places[f].saturating_sub(places[0])
 }
 
 // Writes the position of the line of each function.
@@ -89,19 +74,18 @@ fn fill_starts(kinds: &[u8], functions: usize, places: &[usize; 32], table: &mut
     ensures { table.new ≡ starts_from functions kinds.now places.now 0
         table.old }
 {
-    let mut f: usize = 0;
-    while f < functions {
+    for f in 0..functions {
         let p = position_of(places, f);
         if kinds.len() <= p {
             return;
         }
         put_position(table, machine_code::STARTS + 2 * f, p);
-        f = f + 1;
     }
 }
 
 // Writes both, for the code of so many functions and rows, by the places where the functions were written; a table that
 // is too short for them is left as it is.
+#[tactic(auto, unfolding(crate::specs::Positions::filled))]
 pub fn fill(kinds: &[u8], functions: usize, rows: usize, places: &[usize; 32], table: &mut [u8])
     requires { (functions ≤ 32) × ((rows ≤ length kinds.now) × (rows ≤ 4096)) }
     ensures { table.new ≡ filled functions rows kinds.now places.now

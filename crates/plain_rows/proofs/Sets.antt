@@ -1,6 +1,6 @@
 -- Sets of names as arrays of bools.
 use Rattle.prelude.specs.Kit.{ℕ, ◌≤◌, ◌+◌, ◌<◌, suc, zero, arith, dec_lt, ℕ_discrete, true, false, Bool, ◌&&◌, not, ◌||◌}
-use Rattle.prelude.specs.Kit.{◌≡◌, refl, ◌∙◌, sym, ap, fun_ext, inl, inr, ◌⊎◌, ⊎_elim, List, [], ◌∷◌, eqb, length, get_or}
+use Rattle.prelude.specs.Kit.{◌≡◌, refl, ◌∙◌, sym, fun_ext, inl, inr, ◌⊎◌, ⊎_elim, List, eqb, length, get_or}
 use Rattle.prelude.specs.Kit.{set, length-set, get_or-eq_default, replicate, get_or-set_other, get_or-set_same, ne_eqb}
 use Rattle.prelude.specs.Kit.{eq-eqb}
 use Rattle.semantics.specs.Live.{Set, ◌∪◌, ◌∖◌, only, empty}
@@ -28,12 +28,6 @@ module _ (s : List Bool) (n : ℕ) (h : n < length s) where
       go : (x : ℕ) → Dec (n ≡ x) → get_or (set s n false) x false ≡ not (eqb n x) && get_or s x false
       go x (yes e) = rw (← e, eq-eqb n n refl) (get_or-set_same s n false false h)
       go x (no f) = rw (ne_eqb n x f) (get_or-set_other s n x false false (λ p. f (sym p)))
-
--- a name written as it is
-pub set_same : (s : List Bool) (i : ℕ) → set s i (get_or s i false) ≡ s
-set_same [] i = refl
-set_same (b ∷ s) zero = refl
-set_same (b ∷ s) (suc i) = ap (λ (t : List Bool). b ∷ t) (set_same s i)
 
 -- ---- a set that is made name by name
 

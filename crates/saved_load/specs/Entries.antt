@@ -1,11 +1,10 @@
 -- Loading by the entries' numbers: the state is the next entry, how many cells are free, and the store. An entry that
 -- is not there stops, as a cell that is wanted does.
-use Rattle.std.specs.Prelude.{ℕ, zero, suc, ◌+◌, ◌-◌, cond, ◌≡◌, List, [], ℤ, pos, ltb}
+use Rattle.std.specs.Prelude.{ℕ, zero, suc, ◌+◌, ◌-◌, cond, ◌≡◌, List, [], ℤ, pos, ltb, Option, Some, None}
 use Rattle.semantics.specs.Outcome.{Outcome, done, stop, Run, onward}
 use Rattle.semantics.specs.Store.{Store, has_free, acquired, appended}
 use Rattle.semantics.specs.Saved.{mark_at, number_at}
 use Rattle.saved_load.specs.declared.Loaded.{Loaded}
-use Rattle.saved_load.specs.declared.Loaded.TheVariants.{Word, NoneFree}
 
 pub record Place : Type 0 where
   pub next : ℕ
@@ -43,26 +42,20 @@ module _ (file : List ℕ) (k : ℕ) where
       (stop 25 s))
       (stop 25 s)
 
--- what was loaded: its word, the number of the entry after it and how many free cells remain
-pub record ValueLoaded : Type 0 where
-  pub word : ℤ
-  pub next : ℕ
-  pub free : ℕ
-
-abbrev pub value_loaded : ℤ → ℕ → ℕ → ValueLoaded
+abbrev pub value_loaded : ℤ → ℕ → ℕ → Loaded
 value_loaded w p n = record { word = w; next = p; free = n }
 
 -- document 01's number and values for each case: a value, or 25
-abbrev pub loaded_outcome : Loaded → Outcome (Unit {0}) ValueLoaded
-loaded_outcome (Word w p n) = done (value_loaded w p n) tt
-loaded_outcome NoneFree = stop 25 tt
+abbrev pub loaded_outcome : Option Loaded → Outcome (Unit {0}) Loaded
+loaded_outcome (Some v) = done v tt
+loaded_outcome None = stop 25 tt
 
 -- how a load's answer and the store after it show its outcome; after a stop the store is not told
-abbrev pub Ended : Outcome Place ℤ → Loaded → Store → Type 0
+abbrev pub Ended : Outcome Place ℤ → Option Loaded → Store → Type 0
 Ended (done w s) r τ = (loaded_outcome r ≡ done (value_loaded w s.next s.free) tt) × (τ ≡ s.store)
 Ended (stop n s) r τ = loaded_outcome r ≡ stop n tt
 
 -- of elements: the word is the cell's
-abbrev pub Filled : ℕ → Outcome Place (Unit {0}) → Loaded → Store → Type 0
+abbrev pub Filled : ℕ → Outcome Place (Unit {0}) → Option Loaded → Store → Type 0
 Filled c (done _ s) r τ = (loaded_outcome r ≡ done (value_loaded (pos c) s.next s.free) tt) × (τ ≡ s.store)
 Filled c (stop n s) r τ = loaded_outcome r ≡ stop n tt

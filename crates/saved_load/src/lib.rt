@@ -6,13 +6,12 @@ ghost use Rattle.std.specs.Prelude.{◌≡◌, ◌+◌, ◌≤◌, ◌<◌};
 ghost use Rattle.semantics.specs.Words.{store_of};
 ghost use Rattle.saved_load.specs.Entries.{Ended, Filled, place, fill, elements_at, load_at};
 
-use store::Acquired;
-
-// The word of a value, the number of the entry after it and how many free cells remain; or that no cell was free.
+// A value that was loaded: its word, the number of the entry after it and how many free cells remain.
 #[derive(Clone, Copy)]
-pub enum Loaded {
-    Word(i64, usize, u32),
-    NoneFree,
+pub struct Loaded {
+    pub word: i64,
+    pub next: usize,
+    pub free: u32,
 }
 
 // How many elements an entry's array has: one less than its mark.
@@ -20,11 +19,10 @@ fn elements_at(saved: &[u8], p: usize) -> u8
     requires { p ≤ 4096 }
     ensures { result ≡ elements_at saved.now 0 p }
 {
-    let mark = saved_read::byte_at(saved, 3 + p);
-    if mark == 0 { 0 } else { mark - 1 }
+    words::get_or(saved, 3 + p, 0).saturating_sub(1)
 }
 
-// The value of a depth from entry p on, in a file of k entries; so many cells are free.
+// The value of a depth from entry p on, in a file of k entries, or none where no cell was free; so many cells are free.
 #[cycle(load_elements_load_value)]
 pub fn load_value(
     saved: &[u8],
@@ -34,22 +32,33 @@ pub fn load_value(
     depth: u32,
     p: usize,
     free: u32,
-) -> Loaded
+) -> Option<Loaded>
     requires { k ≤ 4096 }
     ensures { Ended (load_at saved.now k depth
         (place p free (store_of slots.old heads.old)))
         result (store_of slots.new heads.new) }
 {
     if k <= p {
-        return Loaded::NoneFree;
+        return None;
     }
     if depth == 0 {
-        return Loaded::Word(words::signed_at(saved, 3 + k + 8 * p), p + 1, free);
+        return Some(Loaded {
+            word: words::signed_at(saved, 3 + k + 8 * p),
+            next: p + 1,
+            free,
+        });
     }
-    match store::acquire_empty(slots, heads, depth - 1, free) {
-        Acquired::Cell(c, left) => load_elements(saved, k, slots, heads, depth - 1, p, c, left),
-        Acquired::NoneFree => Loaded::NoneFree,
-    }
+    let gained = store::acquire_empty(slots, heads, depth - 1, free)?;
+    load_elements(
+        saved,
+        k,
+        slots,
+        heads,
+        depth - 1,
+        p,
+        gained.cell,
+        gained.left,
+    )
 }
 
 // The elements of the array of entry p, of a depth, put into the cell c; its word is given. So many cells are free.
@@ -63,28 +72,23 @@ fn load_elements(
     p: usize,
     c: usize,
     free: u32,
-) -> Loaded
+) -> Option<Loaded>
     requires { (k ≤ 4096) × (p < k) × (c < 256) }
     ensures { Filled c (fill (load_at saved.now k depth) c (elements_at saved.now 0 p)
         (place (p + 1) free (store_of slots.old heads.old)))
         result (store_of slots.new heads.new) }
 {
-    let count = elements_at(saved, p);
-    let mut left = count;
-    let mut q = p + 1;
-    let mut now_free = free;
-    while 0 < left {
-        match load_value(saved, k, slots, heads, depth, q, now_free) {
-            Loaded::Word(w, next, remain) => {
-                store::append(slots, heads, c, w);
-                q = next;
-                now_free = remain;
-            }
-            Loaded::NoneFree => {
-                return Loaded::NoneFree;
-            }
-        }
-        left = left - 1;
+    let mut next = p + 1;
+    let mut left = free;
+    for _ in 0..elements_at(saved, p) {
+        let element = load_value(saved, k, slots, heads, depth, next, left)?;
+        store::append(slots, heads, c, element.word);
+        next = element.next;
+        left = element.free;
     }
-    Loaded::Word(c as i64, q, now_free)
+    Some(Loaded {
+        word: c as i64,
+        next,
+        free: left,
+    })
 }

@@ -102,21 +102,23 @@ module _ (m : Run ℕ Value) where
       by (done v q) = told_more v (times n m q)
       by (stop j q) = refl
 
-  times_step : (n p : ℕ) → 0 < n → told (times n m p) ≡ after (n - 1) (told (m p))
-  times_step n p h = ap (λ (j : ℕ). told (times j m p)) (let e : n ≡ suc (n - 1) = omega (arith, h) in e) ∙
-      times_told (n - 1) p
+  times_step : (n i p : ℕ) → i < n → told (times (n - i) m p) ≡ after (n - (i + 1)) (told (m p))
+  times_step n i p h =
+      ap (λ (j : ℕ). told (times j m p)) (let e : n - i ≡ suc (n - (i + 1)) = omega arith in e)
+      ∙ times_told (n - (i + 1)) p
 
-  module _ (n₀ n p₀ p : ℕ) (inv : told (times n₀ m p₀) ≡ told (times n m p)) (left : 0 < n) (r : Outcome (Unit {0}) ℕ)
-      (is : r ≡ told (m p)) where
-    pub goes_on : (q : ℕ) → r ≡ done q tt → told (times n₀ m p₀) ≡ told (times (n - 1) m q)
-    goes_on q e = inv ∙ times_step n p left ∙ ap (after (n - 1)) (sym is ∙ e)
+  -- n values from p₀ on, of which i are read and the others are from p on
+  module _ (n i p₀ p : ℕ) (inv : told (times n m p₀) ≡ told (times (n - i) m p)) (left : i < n) where
+    pub goes_on : (q : ℕ) → done q tt ≡ told (m p) → told (times n m p₀) ≡ told (times (n - (i + 1)) m q)
+    goes_on q e = inv ∙ times_step n i p left ∙ ap (after (n - (i + 1))) (sym e)
 
-    pub breaks : r ≡ stop 27 tt → stop 27 tt ≡ told (times n₀ m p₀)
-    breaks e = sym (inv ∙ times_step n p left ∙ ap (after (n - 1)) (sym is ∙ e))
+    pub breaks : stop 27 tt ≡ told (m p) → stop 27 tt ≡ told (times n m p₀)
+    breaks e = sym (inv ∙ times_step n i p left ∙ ap (after (n - (i + 1))) (sym e))
 
-  pub none_left : (n₀ n p₀ p : ℕ) → told (times n₀ m p₀) ≡ told (times n m p) → n ≡ 0 → done p tt ≡ told (times n₀ m p₀)
+  pub none_left : (n i p₀ p : ℕ) → told (times n m p₀) ≡ told (times (n - i) m p) → n ≤ i → done p tt ≡ told (times n m p₀)
   unfolding times
-  none_left n₀ n p₀ p inv e = sym (inv ∙ ap (λ (j : ℕ). told (times j m p)) e)
+  none_left n i p₀ p inv h =
+      sym (inv ∙ ap (λ (j : ℕ). told (times j m p)) (let e : n - i ≡ 0 = omega arith in e))
 
 -- ---- the whole file
 
@@ -178,9 +180,8 @@ module _ (d : ℕ) (file : List ℕ) where
         broken (done v p) e = absurd (let z : ◌≡◌ {A = ℕ} 0 1 = cc in omega arith)
         broken (stop n p) e = refl
 
-        module _ (r : Outcome (Unit {0}) ℕ) (said : r ≡ told (value_at file k d 0)) where
-          pub ended : (q : ℕ) → r ≡ done q tt → eqb q k ≡ readable d file
-          ended q e = sym (read ∙ ends (value_at file k d 0) q (sym said ∙ e))
+        pub ended : (q : ℕ) → done q tt ≡ told (value_at file k d 0) → eqb q k ≡ readable d file
+        ended q e = sym (read ∙ ends (value_at file k d 0) q (sym e))
 
-          pub refused : r ≡ stop 27 tt → false ≡ readable d file
-          refused e = sym (read ∙ broken (value_at file k d 0) (sym said ∙ e))
+        pub refused : stop 27 tt ≡ told (value_at file k d 0) → false ≡ readable d file
+        refused e = sym (read ∙ broken (value_at file k d 0) (sym e))

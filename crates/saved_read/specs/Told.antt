@@ -1,16 +1,15 @@
 -- What the test of a saved file answers, in the terms of the definitions.
 use Rattle.std.specs.Prelude.{ℕ, Bool, true, false, List}
+use Rattle.std.specs.Prelude.{Option as Maybe, Some, None}
 use Rattle.std.proofs.Math.Option.{Option, none, some}
 use Rattle.semantics.specs.Outcome.{Outcome, done, stop}
 use Rattle.semantics.specs.Value.{Value}
 use Rattle.semantics.specs.Saved.{read_saved}
-use Rattle.saved_read.specs.declared.Read.{Read}
-use Rattle.saved_read.specs.declared.Read.TheVariants.{Next, Broken}
 
 -- document 01's number and value for each case: the next entry, or 27
-abbrev pub read_outcome : Read → Outcome (Unit {0}) ℕ
-read_outcome (Next p) = done p tt
-read_outcome Broken = stop 27 tt
+abbrev pub read_outcome : Maybe ℕ → Outcome (Unit {0}) ℕ
+read_outcome (Some p) = done p tt
+read_outcome None = stop 27 tt
 
 -- where the entries of what was read end, or the number of its stop
 abbrev pub told : {A : Type 0} → Outcome ℕ A → Outcome (Unit {0}) ℕ

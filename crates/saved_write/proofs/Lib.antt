@@ -1,5 +1,4 @@
 -- The laws that the proofs of `saved_write` share.
-pub mod Unsigned
 pub mod Laws
 pub mod Whole
 pub mod Saving

@@ -8,7 +8,6 @@ use Rattle.semantics.specs.Words.{store_of}
 use Rattle.semantics.specs.Saved.{Entry, entries, entry_count, low_bytes, marks, number_bytes, file_bytes, saved_bytes}
 use Rattle.semantics.specs.Saved.{saved_length, save_fits}
 use Rattle.semantics.specs.SaveCalls.{totals_value, in_buffer}
-use Rattle.clearing.proofs.Clearing.{cleared_whole}
 use Rattle.laws.specs.SavedFiles.{file_length}
 use Rattle.saved_write.specs.Writing.{entries_at, Written, written, put_entries, saving, totals_saved}
 use Rattle.saved_write.proofs.Whole.{blanks, entries_value, all_put}
@@ -56,11 +55,11 @@ pub record Begun (d : ℕ) (slots : List ℤ) (heads buffer : List ℕ) (w : ℤ
 pub begins : {d : ℕ} {slots : List ℤ} {heads buffer : List ℕ} {w : ℤ} {k : ℕ} {cleared : List ℕ} →
     w ≡ get_or slots 0 (pos 0) → SFits w64 w →
     k ≡ min 4097 (0 + length (entries_at (store_of slots heads) d (to_z w64 (of_z w64 w)))) →
-    cleared ≡ blanks (length buffer - 0) → Begun d slots heads buffer w k cleared
+    cleared ≡ blanks (length buffer) → Begun d slots heads buffer w k cleared
 begins {w = w} e f g h = record {
   totals = e;
   counted = rw (to_z-of_z {z = w} f) at g;
-  clear = h ∙ cleared_whole _ 0;
+  clear = h;
 }
 
 module _ {d : ℕ} {slots : List ℤ} {heads buffer : List ℕ} {w : ℤ} {k : ℕ} {cleared : List ℕ}

@@ -1,5 +1,5 @@
 -- The entries put one after another into a cleared buffer are the file.
-use Rattle.prelude.specs.Kit.{ℕ, ◌+◌, ◌-◌, suc, zero, ◌*◌, arith, ◌≡◌, refl, ◌∙◌, sym, ap, ap₂, List, [], ◌∷◌, ◌++◌}
+use Rattle.prelude.specs.Kit.{ℕ, ◌+◌, suc, zero, ◌*◌, arith, ◌≡◌, refl, ◌∙◌, sym, ap, ap₂, List, [], ◌∷◌, ◌++◌}
 use Rattle.prelude.specs.Kit.{map, append_assoc, ℤ, pos, length, set, replicate, length-append, length-map}
 use Rattle.prelude.specs.Kit.{length-replicate, replicate-append-replicate, append_snoc, sets, set_at, lt-ltb}
 use Rattle.semantics.specs.Value.{Value, of_list}

@@ -1,5 +1,5 @@
 -- The entries of a word in a store, and the file that they are put into one after another.
-use Rattle.std.specs.Prelude.{ℕ, zero, suc, ◌+◌, ◌-◌, ◌*◌, Bool, true, false, cond, List, [], ◌∷◌, ◌++◌, ℤ, pos, length, set, replicate, ltb}
+use Rattle.std.specs.Prelude.{ℕ, zero, suc, ◌+◌, ◌*◌, Bool, true, false, cond, List, [], ◌∷◌, ◌++◌, ℤ, pos, length, set, replicate, ltb}
 use Rattle.std.proofs.lemmas.List.Edits.{sets}
 use Rattle.semantics.specs.Store.{Store, cell, cell_of, elements}
 use Rattle.semantics.specs.Saved.{Entry, unsigned, low_bytes, entry_count, saved_bytes, save_fits}

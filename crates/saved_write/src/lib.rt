@@ -12,11 +12,7 @@ ghost use Rattle.saved_write.specs.Writing.{totals_saved, saving};
 fn unsigned_of(z: i64) -> u64
     ensures { result ≡ unsigned z }
 {
-    if z < 0 {
-        18446744073709551615 - (((0 - 1) - z) as u64)
-    } else {
-        z as u64
-    }
+    z.cast_unsigned()
 }
 
 // A byte put at a place that is there.
@@ -65,21 +61,16 @@ fn count_value(slots: &[i64], heads: &[u32], w: i64, depth: u32, n: usize) -> us
     ensures { result
         ≡ min 4097 (n + length (entries_at (store_of slots.now heads.now) depth w)) }
 {
-    let one = words::at_most(n + 1, TOO_MANY);
+    let mut counted = (n + 1).min(TOO_MANY);
     if depth == 0 {
-        return one;
+        return counted;
     }
     let c = store_words::named_cell(w);
-    let size = store_words::read_length(slots, heads, c);
-    let mut r = one;
-    let mut i: usize = 0;
-    while i < size {
+    for i in 0..store_words::read_length(slots, heads, c) {
         let e = store_words::read_slot(slots, heads, c, i);
-        let m = count_value(slots, heads, e, depth - 1, r);
-        r = m;
-        i = i + 1;
+        counted = count_value(slots, heads, e, depth - 1, counted);
     }
-    r
+    counted
 }
 
 // The entries of a word of a depth, from entry p of k on; the number of the next.
@@ -103,12 +94,9 @@ fn write_value(
     let c = store_words::named_cell(w);
     let size = store_words::read_length(slots, heads, c);
     let mut q = put_entry(saved, k, p, (size + 1) as u8, 0);
-    let mut i: usize = 0;
-    while i < size {
+    for i in 0..size {
         let e = store_words::read_slot(slots, heads, c, i);
-        let next = write_value(slots, heads, saved, e, depth - 1, k, q);
-        q = next;
-        i = i + 1;
+        q = write_value(slots, heads, saved, e, depth - 1, k, q);
     }
     q
 }
@@ -121,9 +109,9 @@ pub fn write_totals(slots: &[i64], heads: &[u32], saved: &mut [u8], depth: u32) 
     ensures { saving result saved.new
         ≡ totals_saved depth (store_of slots.now heads.now) saved.old }
 {
-    let w = store_words::word_at(slots, 0);
+    let w = words::get_or(slots, 0, 0);
     let k = count_value(slots, heads, w, depth, 0);
-    clearing::clear_bytes(saved, 0);
+    saved.fill(0);
     if MOST_ENTRIES < k {
         return false;
     }

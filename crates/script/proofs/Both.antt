@@ -1,6 +1,6 @@
 -- The walk that asks for names and depths at once, beside the walks that ask for each: where it finds no fault the
 -- names are known and the depths match; where it finds one and the names are known, it is the fault of the depths.
-use Rattle.prelude.specs.Kit.{ℕ, ◌≤◌, ◌+◌, ◌<◌, ◌-◌, suc, zero, arith, true, false, Bool, cond, ◌&&◌, not, ◌≡◌, refl}
+use Rattle.prelude.specs.Kit.{ℕ, ◌≤◌, ◌+◌, ◌<◌, suc, zero, arith, true, false, Bool, cond, ◌&&◌, not, ◌≡◌, refl}
 use Rattle.prelude.specs.Kit.{inl, inr, ◌⊎◌, none, List, [], ◌∷◌, eqb, ltb, leb, length, get_or, lt-ltb, le-ltb, eqb-true}
 use Rattle.prelude.specs.Kit.{le-leb, lt-leb}
 use Rattle.laws.specs.Tests.{both_hold}
@@ -13,8 +13,8 @@ use Rattle.semantics.specs.Types.{main_shape}
 use Rattle.semantics.specs.Names.{Scope}
 use Rattle.script_read.specs.Told.{and_next, repeated, loops, second_name}
 use Rattle.script_read.specs.Starts.{start_of}
-use Rattle.script_read.specs.declared.Read.{Read}
-use Rattle.script_read.specs.declared.Read.TheVariants as R
+use Rattle.script_read.specs.Told as R
+use Rattle.script_read.specs.Told.{Read}
 use Rattle.script_read.proofs.Nodes.{head_fits}
 use Rattle.script_read.proofs.Tables.{updated_twice}
 use Rattle.script_read.proofs.Turns.{and_none}

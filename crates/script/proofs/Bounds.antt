@@ -1,5 +1,5 @@
 -- The rules give depths of at most 4 to nodes whose parts have such depths.
-use Rattle.prelude.specs.Kit.{ℕ, ◌≤◌, ◌-◌, suc, zero, arith, true, false, Bool, cond, ◌&&◌, ◌≡◌, refl, some, none}
+use Rattle.prelude.specs.Kit.{ℕ, ◌≤◌, suc, zero, arith, true, false, Bool, cond, ◌&&◌, ◌≡◌, refl, some, none}
 use Rattle.prelude.specs.Kit.{Option, List, [], ◌∷◌, eqb, leb, get_or, eqb-true, leb-true}
 use Rattle.semantics.specs.File as S
 use Rattle.semantics.specs.File.{at_function, node_at, high_limits}

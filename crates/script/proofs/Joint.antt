@@ -7,8 +7,8 @@ use Rattle.semantics.specs.File.{part_count}
 use Rattle.semantics.specs.Types.{Rule}
 use Rattle.semantics.specs.Names.{Scope}
 use Rattle.script_read.specs.Told.{and_next, repeated, loops, second_name}
-use Rattle.script_read.specs.declared.Read.{Read}
-use Rattle.script_read.specs.declared.Read.TheVariants as R
+use Rattle.script_read.specs.Told as R
+use Rattle.script_read.specs.Told.{Read}
 use Rattle.script_read.proofs.Sorts.{parts_before, loop_parts}
 use Rattle.script_read.proofs.Turns.{and_none, repeated_last}
 use Rattle.script_rules.specs.Rules.{loop_ruled}

@@ -7,21 +7,29 @@ use Rattle.semantics.specs.Types.{type_faults}
 use Rattle.semantics.specs.Normal.{too_many_names}
 use Rattle.script_read.specs.Told.{repeated, found}
 use Rattle.script_read.specs.Starts.{Started, Started_by}
-use Rattle.script_read.specs.declared.Read.{Read}
-use Rattle.script_read.specs.declared.Read.TheVariants as R
+use Rattle.script_read.specs.Told as R
+use Rattle.script_read.specs.Told.{Read}
 use Rattle.script_read.proofs.Written.{ScriptWritten, script_written, total}
 use Rattle.script_names.specs.Walk.{names_function}
 use Rattle.script_names.proofs.Tree.{names_script}
 use Rattle.script_types.specs.Functions.{types_script, known_script}
 use Rattle.script_types.proofs.Script.{types_faults}
 use Rattle.script_count.specs.Count.{crowd, counted_outcome, crowd_outcome}
-use Rattle.script_count.specs.declared.Counted.{Counted}
-use Rattle.script_count.specs.declared.Counted.TheVariants.{Within, Over}
+use Rattle.std.specs.Prelude as P
+use Rattle.std.specs.Prelude.{Some, None, IsErrAnd}
+use Rattle.std.proofs.lemmas.Result.{err_from_is_err_and}
+use Rattle.answers.specs.Numbers.{number_of}
+use Rattle.script_read.specs.declared.Fault.{Fault}
+use Rattle.script.specs.declared.Accepted.{Accepted}
+use Rattle.semantics.specs.Outcome.{Outcome, done, stop}
 use Rattle.script_count.proofs.Tree.{count_all}
 use Rattle.script.proofs.Both.{JointRead, both_go, unknown_name, depths_differ, Placed, all_placed, script_joint}
-use Rattle.script.specs.Verdicts.{Readable, refused_by, listed, checked_as}
-use Rattle.script.specs.declared.Verdict.{Verdict}
-use Rattle.script.specs.declared.Verdict.TheVariants.{Accepted, Refused}
+use Rattle.script.specs.Verdicts.{Readable, verdict_outcome, refused_by, listed, checked_as}
+
+-- a fault that is passed on
+pub passed_on : (r : P.Result Accepted Fault) (f : Fault) → IsErrAnd r (λ g. g ≡ f) →
+    verdict_outcome r ≡ stop (number_of f.refusal) f.node
+passed_on r f e = let p = err_from_is_err_and r e in rw (p.1, p.2)
 
 -- an answer that goes on has found no fault
 pub found_none : (number : ℕ) (l : List ℕ) (q s : ℕ) → R.Next s ≡ found number l q → l ≡ []
@@ -44,12 +52,12 @@ module _ {k w : List ℕ} {f : ℕ} (a : Readable k w f) where
   written = rw a.reads at (script_written k w f 0)
 
   -- the verdict by the faulty nodes
-  abbrev pub Says : Verdict → Type 0
+  abbrev pub Says : Outcome ℕ ℕ → Type 0
   Says r = r ≡ checked_as f (length k) (script k w f 0)
 
-  says : (r : Verdict) →
+  says : (r : Outcome ℕ ℕ) →
       r ≡ refused_by 6 (name_faults a.tree) (refused_by 7 (type_faults a.tree)
-      (refused_by 8 (listed (too_many_names a.tree)) (Accepted f (length k)))) → Says r
+      (refused_by 8 (listed (too_many_names a.tree)) (done f (length k)))) → Says r
   says r e = rw a.reads e
 
   module _ (r : Read) (e : r ≡ repeated f (names_function k w f) 0) where
@@ -62,11 +70,11 @@ module _ {k w : List ℕ} {f : ℕ} (a : Readable k w f) where
               ∙ ap (λ (m : ℕ). found 6 (unknown_in m a.tree 0) n.0) (sym written.1),
         )
 
-    pub unknown_found : (m p : ℕ) → r ≡ R.Refused m p → Says (Refused m p)
+    pub unknown_found : (m p : ℕ) → r ≡ R.Refused m p → Says (stop m p)
     unknown_found m p g =
-        says (Refused m p) (go (name_faults a.tree) names_answer.0 _ (sym g ∙ names_answer.1))
+        says (stop m p) (go (name_faults a.tree) names_answer.0 _ (sym g ∙ names_answer.1))
       where
-        go : (l : List ℕ) (q : ℕ) (v : Verdict) → R.Refused m p ≡ found 6 l q → Refused m p ≡ refused_by 6 l v
+        go : (l : List ℕ) (q : ℕ) (v : Outcome ℕ ℕ) → R.Refused m p ≡ found 6 l q → stop m p ≡ refused_by 6 l v
         go [] q v h = let z : ◌≡◌ {A = ℕ} 0 1 = cc in absurd (omega arith)
         go (n ∷ l) q v h = cc
 
@@ -101,19 +109,19 @@ module _ {k w : List ℕ} {f : ℕ} (a : Readable k w f) where
 
     -- a fault where all names are known
     pub mismatch_found : (m p : ℕ) → r ≡ R.Refused m p → (r₁ : Read) → r₁ ≡ repeated f (names_function k w f) 0 →
-        (s : ℕ) → r₁ ≡ R.Next s → Says (Refused m p)
+        (s : ℕ) → r₁ ≡ R.Next s → Says (stop m p)
     mismatch_found m p h r₁ e₁ s g =
-        says (Refused m p)
+        says (stop m p)
         (rw (all_known r₁ e₁ s g)
         (go (type_faults a.tree) types_answer.0 _
         (sym (only_depths m p s together h (sym e₁ ∙ g)) ∙ types_answer.1)))
       where
-        go : (l : List ℕ) (q : ℕ) (v : Verdict) → R.Refused m p ≡ found 7 l q → Refused m p ≡ refused_by 7 l v
+        go : (l : List ℕ) (q : ℕ) (v : Outcome ℕ ℕ) → R.Refused m p ≡ found 7 l q → stop m p ≡ refused_by 7 l v
         go [] q v h = let z : ◌≡◌ {A = ℕ} 0 1 = cc in absurd (omega arith)
         go (n ∷ l) q v h = cc
 
     -- after a walk that finds no fault
-    module _ (s : ℕ) (g : r ≡ R.Next s) (r₃ : Counted)
+    module _ (s : ℕ) (g : r ≡ R.Next s) (r₃ : P.Option ℕ)
         (e₃ : counted_outcome r₃ ≡ crowd_outcome (crowd k (length k) 0 0 0)) where
       none_unknown : name_faults a.tree ≡ []
       none_unknown = all_known names refl s (both_went s together g).0
@@ -126,22 +134,22 @@ module _ {k w : List ℕ} {f : ℕ} (a : Readable k w f) where
       count_answer : counted_outcome r₃ ≡ crowd_outcome (too_many_names a.tree)
       count_answer = e₃ ∙ ap crowd_outcome (count_all k w a.tree written.0 (omega (arith, written.2)))
 
-      pub crowd_found : (p : ℕ) → r₃ ≡ Over p → Says (Refused 8 p)
+      pub crowd_found : (p : ℕ) → r₃ ≡ Some p → Says (stop 8 p)
       crowd_found p h =
-          says (Refused 8 p) (rw (none_unknown, all_match) (go (too_many_names a.tree)
+          says (stop 8 p) (rw (none_unknown, all_match) (go (too_many_names a.tree)
           (ap counted_outcome (sym h) ∙ count_answer)))
         where
-          go : (o : Option ℕ) → counted_outcome (Over p) ≡ crowd_outcome o →
-              Refused 8 p ≡ refused_by 8 (listed o) (Accepted f (length k))
+          go : (o : Option ℕ) → counted_outcome (Some p) ≡ crowd_outcome o →
+              stop 8 p ≡ refused_by 8 (listed o) (done f (length k))
           go none h = let z : ◌≡◌ {A = ℕ} 0 1 = cc in absurd (omega arith)
           go (some q) h = cc
 
-      pub accepted : r₃ ≡ Within → Says (Accepted f (length k))
+      pub accepted : r₃ ≡ None → Says (done f (length k))
       accepted h =
-          says (Accepted f (length k)) (rw (none_unknown, all_match) (go (too_many_names a.tree)
+          says (done f (length k)) (rw (none_unknown, all_match) (go (too_many_names a.tree)
           (ap counted_outcome (sym h) ∙ count_answer)))
         where
-          go : (o : Option ℕ) → counted_outcome Within ≡ crowd_outcome o →
-              Accepted f (length k) ≡ refused_by 8 (listed o) (Accepted f (length k))
+          go : (o : Option ℕ) → counted_outcome None ≡ crowd_outcome o →
+              done f (length k) ≡ refused_by 8 (listed o) (done f (length k))
           go none h = refl
           go (some q) h = let z : ◌≡◌ {A = ℕ} 0 1 = cc in absurd (omega arith)

@@ -11,13 +11,11 @@ use Rattle.semantics.specs.Types.{type_faults}
 use Rattle.semantics.specs.Normal.{too_many_names}
 use Rattle.semantics.specs.Calls.{judged, judged_script}
 use Rattle.script_read.specs.Told.{Parts, told}
-use Rattle.script_read.specs.declared.Read.TheVariants as R
+use Rattle.script_read.specs.Told as R
 use Rattle.laws.specs.Tests.{both_hold}
 use Rattle.script_laws.specs.Faults.{Rising}
 use Rattle.script_laws.specs.Nodes.{names_rise, types_rise, first_least}
-use Rattle.script.specs.Verdicts.{Readable, told_verdict, Judges, refused_by, listed, checked_as}
-use Rattle.script.specs.declared.Verdict.{Verdict}
-use Rattle.script.specs.declared.Verdict.TheVariants.{Accepted, Refused}
+use Rattle.script.specs.Verdicts.{Readable, told_verdict, JudgedAs, refused_by, listed, checked_as}
 
 -- the parts as the code passes them on
 abbrev pub kinds_of : List ℕ → ℕ → List ℕ
@@ -88,32 +86,32 @@ module _ (l : List ℕ) (f n q : ℕ) (fe : f ≡ bytes_at 2 l 0) (ne : n ≡ by
           }
 
 -- the verdict with the first node has the lowest
-module _ (l : List ℕ) (r : Verdict) where
+module _ (l : List ℕ) (r : Outcome ℕ ℕ) where
   by_faults : (fs : Script) (a b : List ℕ) (c : Option ℕ) → Rising a → Rising b →
-      r ≡ refused_by 6 a (refused_by 7 b (refused_by 8 (listed c) (Accepted (bytes_at 2 l 0) (bytes_at 2 l 2)))) →
+      r ≡ refused_by 6 a (refused_by 7 b (refused_by 8 (listed c) (done (bytes_at 2 l 0) (bytes_at 2 l 2)))) →
       r ≡ told_verdict l (judged_script fs a b c)
   by_faults fs [] [] none h k e = e
   by_faults fs [] [] (some p) h k e = e
   by_faults fs [] (q ∷ qs) c h k e = rw (first_least q qs k) e
   by_faults fs (p ∷ ps) b c h k e = rw (first_least p ps h) e
 
-  pub judges : r ≡ checked_as (bytes_at 2 l 0) (bytes_at 2 l 2) (read_file l) → Judges l r
+  pub judges : r ≡ checked_as (bytes_at 2 l 0) (bytes_at 2 l 2) (read_file l) → JudgedAs l r
   unfolding judged
   judges e = go (read_file l) refl e
     where
-      go : (o : Outcome ℕ Script) → read_file l ≡ o → r ≡ checked_as (bytes_at 2 l 0) (bytes_at 2 l 2) o → Judges l r
+      go : (o : Outcome ℕ Script) → read_file l ≡ o → r ≡ checked_as (bytes_at 2 l 0) (bytes_at 2 l 2) o → JudgedAs l r
       go (done fs q) i e =
           rw i (by_faults fs (name_faults fs) (type_faults fs) (too_many_names fs) (names_rise fs) (types_rise fs) e)
       go (stop n p) i e = rw i e
 
-  pub refused : (n p : ℕ) → r ≡ Refused n p → R.Refused n p ≡ told (read_file l) → Judges l r
+  pub refused : (n p : ℕ) → r ≡ stop n p → R.Refused n p ≡ told (read_file l) → JudgedAs l r
   refused n p e f = judges (e ∙ go (read_file l) f)
     where
       go : (o : Outcome ℕ Script) → R.Refused n p ≡ told o →
-          Refused n p ≡ checked_as (bytes_at 2 l 0) (bytes_at 2 l 2) o
+          stop n p ≡ checked_as (bytes_at 2 l 0) (bytes_at 2 l 2) o
       go (done fs q) f = let z : ◌≡◌ {A = ℕ} 0 1 = cc in absurd (omega arith)
       go (stop m q) f = cc
 
   pub checked : {f n : ℕ} → f ≡ bytes_at 2 l 0 → n ≡ bytes_at 2 l 2 → FileTaken l f n →
-      r ≡ checked_as f (length (kinds_of l n)) (script (kinds_of l n) (operands_of l n) f 0) → Judges l r
+      r ≡ checked_as f (length (kinds_of l n)) (script (kinds_of l n) (operands_of l n) f 0) → JudgedAs l r
   checked fe ne t e = judges (rw (← fe, ← ne) (rw (t.sized, t.same) at e))

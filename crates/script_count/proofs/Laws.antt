@@ -1,9 +1,7 @@
 -- The pass over the kinds, in the terms of the code.
 use Rattle.prelude.specs.Kit.{ℕ, ◌≤◌, ◌+◌, ◌<◌, ◌-◌, suc, zero, arith, true, false, Bool, cond, ◌&&◌, ◌≡◌, refl, ◌∙◌}
-use Rattle.prelude.specs.Kit.{ap, some, none, Option, List, [], ◌∷◌, eqb, ltb, length, get_or, lt-ltb, le-ltb, ltb-true}
-use Rattle.semantics.specs.Outcome.{done, stop}
+use Rattle.prelude.specs.Kit.{ap, some, none, List, [], ◌∷◌, eqb, ltb, length, get_or, lt-ltb, ltb-true}
 use Rattle.script_count.specs.Count.{new_names, crowd_ends, start_after, count_after, counted_on, crowd}
-use Rattle.script_count.specs.Count.{crowd_outcome}
 use Rattle.script_read.proofs.Limits.{NoneOf, others_zero}
 
 -- how far a count is over 256 makes no difference
@@ -34,43 +32,25 @@ stands_still k kind n p s c = go (eqb kind 0) (ltb 256 c) refl
         over k n p s _ _ (omega arith) h
     go false false e = refl
 
--- The pass stands before node p, in the function at s with c new names; the whole gives o.
-pub record Passing (k : List ℕ) (o : Option ℕ) (p s c : ℕ) : Type 0 where
-  pub under : p ≤ length k
-  pub same : o ≡ crowd k (length k - p) p s c
-
-pub pass_starts : (k : List ℕ) → Passing k (crowd k (length k) 0 0 0) 0 0 0
-pass_starts k =
-    let e : length k - 0 ≡ length k = omega arith in
-    record { under = omega arith; same = rw e }
-
-module _ {k : List ℕ} {o : Option ℕ} {p s c : ℕ} (v : Passing k o p s c) where
-  turn : p < length k →
+module _ (k : List ℕ) (p s c : ℕ) where
+  -- one node more
+  pub turn : p < length k →
       crowd k (length k - p) p s c ≡
       cond (crowd_ends (get_or k p 0) c) (some s)
-      (crowd k (length k - (p + 1)) (p + 1) (start_after (get_or k p 0) p s) (count_after (get_or k p 0) c))
+      (crowd k (length k - (p + 1)) (p + 1) (start_after (get_or k p 0) p s) (counted_on (get_or k p 0) c))
   unfolding crowd
-  turn h = let e : length k - p ≡ suc (length k - (p + 1)) = omega arith in ap (λ (n : ℕ). crowd k n p s c) e
+  turn h =
+      let e : length k - p ≡ suc (length k - (p + 1)) = omega arith in
+      ap (λ (n : ℕ). crowd k n p s c) e
+      ∙ ap (cond (crowd_ends (get_or k p 0) c) (some s)) (stands_still k (get_or k p 0) _ _ _ c)
 
-  pub pass_stops : p < length k → crowd_ends (get_or k p 0) c ≡ true → stop 8 s ≡ crowd_outcome o
-  pass_stops h e = rw (v.same, turn h, e)
-
-  pub pass_goes : p < length k → crowd_ends (get_or k p 0) c ≡ false → (s' c' : ℕ) →
-      s' ≡ start_after (get_or k p 0) p s → c' ≡ counted_on (get_or k p 0) c → Passing k o (p + 1) s' c'
-  pass_goes h e s' c' f g = record {
-    under = omega arith;
-    same = v.same ∙ turn h ∙ rw (e, ← f, g) (stands_still k (get_or k p 0) _ _ _ c);
-  }
-
-  ended : length k ≤ p → o ≡ cond (ltb 256 c) (some s) none
+  -- no node is left
+  pub ended : length k ≤ p → crowd k (length k - p) p s c ≡ cond (ltb 256 c) (some s) none
   unfolding crowd
-  ended h = let e : length k - p ≡ 0 = omega arith in v.same ∙ rw e
+  ended h = let e : length k - p ≡ 0 = omega arith in rw e
 
-  pub pass_over : length k ≤ p → 256 < c → stop 8 s ≡ crowd_outcome o
-  pass_over h l = rw (ended h, lt-ltb 256 c l)
-
-  pub pass_within : length k ≤ p → c ≤ 256 → done tt 0 ≡ crowd_outcome o
-  pass_within h l = rw (ended h, le-ltb 256 c l)
+-- what the pass goes by
+pub ruleset passing = (turn, ended)
 
 -- the kinds that take new names
 abbrev with_names : List ℕ

@@ -1,9 +1,8 @@
 -- Refusal 8, found in one pass over the kinds: the same walk as the code's.
-use Rattle.std.specs.Prelude.{Bool, cond, ◌&&◌, List, [], ◌∷◌, ℕ, zero, suc, ◌+◌, eqb, ltb, get_or}
+use Rattle.std.specs.Prelude.{Bool, cond, ◌&&◌, List, [], ◌∷◌, ℕ, zero, suc, ◌+◌, eqb, ltb, get_or, Some, None}
+use Rattle.std.specs.Prelude as R
 use Rattle.std.proofs.Math.Option.{Option, none, some}
 use Rattle.semantics.specs.Outcome.{Outcome, done, stop}
-use Rattle.script_count.specs.declared.Counted.{Counted}
-use Rattle.script_count.specs.declared.Counted.TheVariants.{Within, Over}
 
 -- new names by kind: a parameter and a compound node take one, a loop one more for each name of a pass
 abbrev pub new_names : List ℕ
@@ -32,9 +31,9 @@ crowd kinds (suc n) p start count =
     (count_after kind count))
 
 -- document 01's number and node for each case: none, or 8 with the function's node
-abbrev pub counted_outcome : Counted → Outcome ℕ (Unit {0})
-counted_outcome Within = done tt 0
-counted_outcome (Over p) = stop 8 p
+abbrev pub counted_outcome : R.Option ℕ → Outcome ℕ (Unit {0})
+counted_outcome None = done tt 0
+counted_outcome (Some p) = stop 8 p
 
 -- 8 with the node of a function that has too many names, if there is one
 abbrev pub crowd_outcome : Option ℕ → Outcome ℕ (Unit {0})

@@ -1,6 +1,10 @@
 -- Depths, found by going over the nodes: the same walk as the code's, with the names' depths as a function.
+use Rattle.std.specs.Prelude as P
 use Rattle.std.specs.Prelude.{cond, List, [], ◌∷◌, ◌≡◌, ℕ, zero, suc, ◌+◌, ◌<◌, eqb, length}
+use Rattle.std.specs.Prelude.{Result, Ok, Err, Some, None}
 use Rattle.std.proofs.Math.Option.{Option, none, some}
+use Rattle.answers.specs.Numbers.{number_of}
+use Rattle.answers.specs.declared.Refusal.TheVariants.{TypeMismatch}
 use Rattle.semantics.specs.Basics.{updated}
 use Rattle.semantics.specs.Outcome.{Outcome, done, stop}
 use Rattle.semantics.specs.File as S
@@ -8,18 +12,26 @@ use Rattle.semantics.specs.File.{at_part, node_at, part_count}
 use Rattle.semantics.specs.Types.{Rule, Signature}
 use Rattle.script_read.specs.Told.{loops, second_name}
 use Rattle.script_read.specs.Table.{table}
+use Rattle.script_read.specs.declared.Fault.{Fault}
 use Rattle.script_rules.specs.Rules.{signature_of, known_signature, rule_of, loop_ruled}
 use Rattle.script_depths.specs.declared.Typed.{Typed}
-use Rattle.script_depths.specs.declared.Typed.TheVariants.{Depth, Fault}
 
 -- the depths of the names, as a table says; 255 of a name that is not known
 abbrev pub depths : List ℕ → ℕ → ℕ
 depths t = table 255 t
 
--- document 01's number and values for each case: a depth and the next node, or 7 and the node
-abbrev pub typed_outcome : Typed → Outcome ℕ ℕ
-typed_outcome (Depth d q) = done d q
-typed_outcome (Fault p) = stop 7 p
+-- the depth that an entry of the table says; 255 says none
+abbrev pub known_depth : ℕ → P.Option ℕ
+known_depth d = cond (eqb d 255) None (Some d)
+
+-- the fault of a node that breaks rule 7
+abbrev pub mismatch_at : ℕ → Fault
+mismatch_at p = record { refusal = TypeMismatch; node = p }
+
+-- document 01's number and values for each case: a depth and the next node, or a refusal's number and the node
+abbrev pub typed_outcome : Result Typed Fault → Outcome ℕ ℕ
+typed_outcome (Ok t) = done t.depth t.next
+typed_outcome (Err f) = stop (number_of f.refusal) f.node
 
 -- what a walk over a part gives, and over some parts in turn: the depth or the depths, and the next node
 abbrev pub Walked : Type 0
@@ -118,10 +130,10 @@ module _ (kinds operands starts : List ℕ) where
   known_plain f p kind low high =
       plain_typed known_name (known_signature kinds operands starts) kinds operands f p kind low high
 
--- where v is no 255, an atom of depth v stands at node p, wherever the functions stand
-abbrev pub AtomTyped : List ℕ → List ℕ → ℕ → (ℕ → ℕ) → ℕ → ℕ → Type 0
-AtomTyped kinds operands d γ p v =
-    (v ≡ 255 → ⊥) →
+-- where there is a depth, an atom of it stands at node p, wherever the functions stand
+abbrev pub AtomTyped : List ℕ → List ℕ → ℕ → (ℕ → ℕ) → ℕ → P.Option ℕ → Type 0
+AtomTyped kinds operands d γ p None = Unit {0}
+AtomTyped kinds operands d γ p (Some v) =
     (p < length kinds) × ((starts : List ℕ) → done v (p + 1) ≡ known_types kinds operands starts d γ p)
 
 -- The walk for depths alone: every name counts as known and every function as there.

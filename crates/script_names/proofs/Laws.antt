@@ -1,20 +1,32 @@
 -- Laws of the walk for names, in the terms of the code.
 use Rattle.prelude.specs.Kit.{ℕ, ◌≤◌, ◌+◌, ◌<◌, ◌-◌, suc, zero, arith, true, false, Bool, ◌||◌, ◌≡◌, refl, ◌∙◌, sym, ap}
-use Rattle.prelude.specs.Kit.{◌⊎◌, ⊎_elim, List, eqb, length, get_or, set, replicate, ne_eqb, eq-eqb, eqb-true}
+use Rattle.prelude.specs.Kit.{⊎_elim, List, eqb, length, get_or, set, replicate, ne_eqb, eq-eqb, eqb-true}
 use Rattle.semantics.specs.File as S
 use Rattle.semantics.specs.File.{at_function, at_parameter, at_part, look, node_at, part_count}
 use Rattle.semantics.specs.Names.{Scope}
 use Rattle.script_read.specs.Told.{node_outcome, parted, loops, second_name, repeated}
-use Rattle.script_read.specs.declared.Node.{Node}
-use Rattle.script_read.specs.declared.Node.TheVariants.{WrongKind, WrongOperand}
-use Rattle.script_read.specs.declared.Read.{Read}
-use Rattle.script_read.specs.declared.Read.TheVariants.{Next, Refused}
+use Rattle.script_read.specs.Told.{Read, Next, Refused}
+use Rattle.std.specs.Prelude.{Result, Err, IsErrAnd}
+use Rattle.answers.specs.Numbers.{number_of}
+use Rattle.script_read.specs.declared.Fault.{Fault}
+use Rattle.script_read.specs.Told.{read_of}
+use Rattle.script_read.proofs.Turns.{passed_on}
+use Rattle.script_names.specs.Walk.{unknown_at}
+use Rattle.script_read.specs.declared.Misfit.{Misfit}
 use Rattle.script_read.proofs.Nodes.{Seen, unfit}
 use Rattle.script_read.proofs.Sorts.{loop_parts}
 use Rattle.script_read.proofs.Turns.{less_one}
 use Rattle.script_read.proofs.Tables.{table_at, table_set, table_set_two, put_back_two, table_fresh}
 use Rattle.script_names.specs.Walk.{scope, binds, calls_none, then_bound, named, names, named_parameter}
 use Rattle.script_names.specs.Walk.{named_head, names_from, names_function}
+
+-- a fault that names nothing known, as an answer and as it is passed on
+pub unknown_told : (f : Fault) (p : ℕ) → f ≡ unknown_at p → Refused (number_of f.refusal) f.node ≡ Refused 6 p
+unknown_told f p e = rw e
+
+pub unknown_passed : (r : Result ℕ Fault) (f : Fault) (p : ℕ) → IsErrAnd r (λ g. g ≡ f) → f ≡ unknown_at p →
+    read_of r ≡ Refused 6 p
+unknown_passed r f p i e = passed_on r f i ∙ unknown_told f p e
 
 pub no_levels : (k w : List ℕ) (F d : ℕ) (ρ : Scope) (p : ℕ) → d ≡ 0 → Refused 6 p ≡ names k w F d ρ p
 unfolding names
@@ -49,11 +61,12 @@ module _ {k w : List ℕ} {p x y z : ℕ} (s : Seen k w at_part p x y z) (F d : 
       others g n i r j = j ∙ sym (case ∙ rw (ne_eqb x 3 e, f, g, ← i))
 
 -- no node fits
-pub no_node : (k w : List ℕ) (F d : ℕ) (ρ : Scope) (p : ℕ) (n : Node) → node_outcome n p ≡ parted (look k w at_part p) →
-    (n ≡ WrongKind) ⊎ (n ≡ WrongOperand) → Refused 6 p ≡ names k w F d ρ p
+pub no_node : (k w : List ℕ) (F d : ℕ) (ρ : Scope) (p : ℕ) (m : Misfit) →
+    node_outcome (Err m) p ≡ parted (look k w at_part p) →
+    Refused 6 p ≡ names k w F d ρ p
 unfolding names
-no_node k w F zero ρ p n e f = refl
-no_node k w F (suc d) ρ p n e f = ⊎_elim (λ g. rw g) (λ g. rw g) (unfit k w at_part p n e f).is
+no_node k w F zero ρ p m e = refl
+no_node k w F (suc d) ρ p m e = ⊎_elim (λ g. rw g) (λ g. rw g) (unfit k w at_part p (Err m) e m refl).is
 
 pub at_scope : (t : List Bool) (y : ℕ) (b : Bool) → get_or t y false ≡ b → scope t y ≡ b
 at_scope t y b e = table_at false t y ∙ e
@@ -68,22 +81,23 @@ last_part x y z n b e = go (eqb x 7) refl b
     go false h l = omega (arith, e, loop_parts x y z l)
 
 -- a binding by the parts before the last: two names changed and put back
-module _ (m : Scope → ℕ → Read) (t : List Bool) (x y c p : ℕ) (r₁ : Read) (g : r₁ ≡ repeated c (m (scope t)) p) where
+module _ (m : Scope → ℕ → Read) (t : List Bool) (x y c p : ℕ) where
   abbrev Binds : Read → Type 0
   Binds r = r ≡ then_bound m (scope t) x y (repeated c (m (scope t)) p)
 
   pub rebound : (t₁ t₂ : List Bool) (q : ℕ) (r₂ : Read) → length t ≡ 256 → x < 256 → y < 256 → t₁ ≡ t →
-      t₂ ≡ set (set t₁ x true) y true → r₁ ≡ Next q → r₂ ≡ m (scope (set (set t₁ x true) y true)) q →
+      t₂ ≡ set (set t₁ x true) y true → Next q ≡ repeated c (m (scope t)) p →
+      r₂ ≡ m (scope (set (set t₁ x true) y true)) q →
       Binds r₂ × (set (set t₂ y (get_or (set t₁ x true) y false)) x (get_or t₁ x false) ≡ t)
-  rebound t₁ t₂ q r₂ l h i e f j k = (
-    rw (← g, j)
+  rebound t₁ t₂ q r₂ l h i e f g k = (
+    rw (← g)
         (k ∙ ap (λ (u : List Bool). m (scope (set (set u x true) y true)) q) e
         ∙ ap (λ (ρ : Scope). m ρ q) (table_set_two false t x y true true (omega arith) (omega arith))),
     put_back_two false t t₁ t₂ x y true true e f,
   )
 
-  pub unbound : (n q : ℕ) → r₁ ≡ Refused n q → Binds (Refused n q)
-  unbound n q f = rw (← g, f)
+  pub unbound : (n q : ℕ) → Refused n q ≡ repeated c (m (scope t)) p → Binds (Refused n q)
+  unbound n q g = rw (← g)
 
 -- parameters
 module _ (k w : List ℕ) (F : ℕ) where
@@ -109,12 +123,10 @@ module _ (k w : List ℕ) (F : ℕ) where
             (scope (set t y true)) (p + 1)
         go = rw (s.same_low, at_scope t y false e, table_set false t y true (omega arith))
 
-    pub parameter_none : (n : Node) → node_outcome n p ≡ parted (look k w at_parameter p) →
-        (n ≡ WrongKind) ⊎ (n ≡ WrongOperand) →
-        Refused 6 p ≡ r
-    parameter_none n e f =
+    pub parameter_none : (m : Misfit) → node_outcome (Err m) p ≡ parted (look k w at_parameter p) → Refused 6 p ≡ r
+    parameter_none m e =
         sym (inv ∙ from_step c (scope t) p h
-        ∙ ⊎_elim (λ g. rw g) (λ g. rw g) (unfit k w at_parameter p n e f).is)
+        ∙ ⊎_elim (λ g. rw g) (λ g. rw g) (unfit k w at_parameter p (Err m) e m refl).is)
 
   pub body_next : (r : Read) (c : ℕ) (ρ : Scope) (p : ℕ) → c ≡ 0 → r ≡ names k w F 64 ρ p → r ≡ names_from k w F c ρ p
   unfolding names_from
@@ -129,8 +141,7 @@ module _ (k w : List ℕ) (F : ℕ) where
       go : named_head (names_from k w F) p (node_at k w at_function p) ≡ names_from k w F y (λ x. false) (p + 1)
       go = rw (s.stands, s.same_low)
 
-  pub function_none : (p : ℕ) (n : Node) → node_outcome n p ≡ parted (look k w at_function p) →
-      (n ≡ WrongKind) ⊎ (n ≡ WrongOperand) →
+  pub function_none : (p : ℕ) (m : Misfit) → node_outcome (Err m) p ≡ parted (look k w at_function p) →
       Refused 6 p ≡ names_function k w F p
   unfolding names_function
-  function_none p n e f = ⊎_elim (λ g. rw g) (λ g. rw g) (unfit k w at_function p n e f).is
+  function_none p m e = ⊎_elim (λ g. rw g) (λ g. rw g) (unfit k w at_function p (Err m) e m refl).is

@@ -11,8 +11,7 @@ use Rattle.semantics.specs.File.{part_count, leaf_of, loop_of, shape_of}
 use Rattle.semantics.specs.Names.{Scope, scope_with, calls_none, unknown, unknowns, unknown_from, unknown_in}
 use Rattle.laws.specs.Tests.{or_right}
 use Rattle.script_read.specs.Told.{loops, and_next, repeated}
-use Rattle.script_read.specs.declared.Read.{Read}
-use Rattle.script_read.specs.declared.Read.TheVariants.{Next, Refused}
+use Rattle.script_read.specs.Told.{Read, Next, Refused}
 use Rattle.script_read.proofs.Sorts.{kind_of_leaf, is_a_loop, names_of_loop, parts_of_loop, other_kind, loop_some}
 use Rattle.script_read.proofs.Tables.{updated_twice}
 use Rattle.script_read.proofs.Written.{amount, Written, AllWritten, ParametersWritten, FunctionWritten, ScriptWritten}

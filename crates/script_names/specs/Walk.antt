@@ -4,10 +4,25 @@ use Rattle.semantics.specs.Basics.{updated}
 use Rattle.semantics.specs.File as S
 use Rattle.semantics.specs.File.{at_function, at_parameter, at_part, node_at, part_count}
 use Rattle.semantics.specs.Names.{Scope}
+use Rattle.std.specs.Prelude.{◌≡◌, Result, Ok, Err}
+use Rattle.answers.specs.declared.Refusal.TheVariants.{UnknownName}
+use Rattle.script_read.specs.declared.Node.{Node}
+use Rattle.script_read.specs.declared.Misfit.{Misfit}
+use Rattle.script_read.specs.declared.Fault.{Fault}
+use Rattle.script_read.specs.Told.{node_outcome, parted}
 use Rattle.script_read.specs.Told.{loops, second_name, and_next, repeated}
 use Rattle.script_read.specs.Table.{table}
-use Rattle.script_read.specs.declared.Read.{Read}
-use Rattle.script_read.specs.declared.Read.TheVariants.{Next, Refused}
+use Rattle.script_read.specs.Told.{Read, Next, Refused}
+
+-- the fault of a node that names nothing known
+abbrev pub unknown_at : ℕ → Fault
+unknown_at p = record { refusal = UnknownName; node = p }
+
+-- the node at a place; a fault where none fits
+abbrev pub Fitting : List ℕ → List ℕ → S.Place → ℕ → Result Node Fault → Type 0
+Fitting k w place p (Ok n) = node_outcome (Ok n) p ≡ parted (S.look k w place p)
+Fitting k w place p (Err f) =
+    (f ≡ unknown_at p) × ((m : Misfit) × (node_outcome (Err m) p ≡ parted (S.look k w place p)))
 
 -- the names that a table says are known
 abbrev pub scope : List Bool → Scope

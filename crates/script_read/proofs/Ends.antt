@@ -11,7 +11,7 @@ module _ (k w : List ℕ) where
   pub node_inside : (place : Place) (p : ℕ) (h : S.Head) → node_at k w place p ≡ S.fits h → p < length k
   node_inside place p h e =
       let n = told_node (node_at k w place p) in
-      inside k w place p _ _ _ n (node_says k w place p n refl) (ap told_node e)
+      inside k w place p n (node_says k w place p n refl) _ (ap told_node e)
 
   mutual
     unfolding size

@@ -2,8 +2,7 @@
 use Rattle.prelude.specs.Kit.{ℕ, true, false, Bool, cond, ◌≡◌, refl, List, [], ◌∷◌, ◌++◌}
 use Rattle.semantics.specs.Basics.{with_if}
 use Rattle.script_read.specs.Told.{and_next, repeated, found}
-use Rattle.script_read.specs.declared.Read.{Read}
-use Rattle.script_read.specs.declared.Read.TheVariants.{Refused}
+use Rattle.script_read.specs.Told.{Read, Refused}
 
 -- the walk's answer, for the refusal with this number
 pub record Finds (number : ℕ) (r : Read) (l : List ℕ) (q : ℕ) : Type 0 where

@@ -1,10 +1,10 @@
 -- Facts of each kind: what the tables of the definitions give for the kinds that the code does not name.
-use Rattle.prelude.specs.Kit.{ℕ, ◌≤◌, ◌+◌, ◌<◌, suc, zero, ◌*◌, ◌%◌, ◌/◌, arith, true, false, Bool, cond, ◌&&◌, not}
+use Rattle.prelude.specs.Kit.{ℕ, ◌≤◌, ◌+◌, ◌<◌, suc, zero, ◌*◌, arith, true, false, Bool, cond, ◌&&◌}
 use Rattle.prelude.specs.Kit.{false≢true, ◌||◌, ◌≡◌, refl, ◌∙◌, sym, List, [], ◌∷◌, eqb, ltb, leb, get_or, ne_eqb}
 use Rattle.prelude.specs.Kit.{eqb-true, ltb-true, leb-true}
 use Rattle.laws.specs.Tests.{both_hold, or_left}
-use Rattle.semantics.specs.File.{Place, allowed, low_limits, high_limits, part_counts, part_count}
-use Rattle.script_read.specs.Told.{said_parts, limits_at}
+use Rattle.semantics.specs.File.{Place, allowed, low_limits, high_limits, part_counts}
+use Rattle.script_read.specs.Told.{limits_at}
 
 -- a table by kind: a test that each entry passes, and that d past its end passes
 module _ {A : Type 0} (test : ℕ → A → Bool) (d : A) where
@@ -52,13 +52,6 @@ pub others_zero : (ks t : List ℕ) → all_pass (λ k v. eqb v 0 || is_in k ks)
     0 ≡ get_or t k 0
 others_zero ks t f k n = sym (eqb-true (get_or t k 0) 0 (others_blank (λ v. eqb v 0) 0 refl ks t f k n))
 
--- the kinds with parts, but for those that say how many
-abbrev with_parts : List ℕ
-with_parts = 20 ∷ 19 ∷ 18 ∷ 17 ∷ 13 ∷ 12 ∷ 11 ∷ 10 ∷ 7 ∷ 6 ∷ 5 ∷ 4 ∷ []
-
-pub no_part : (k : ℕ) → NoneOf with_parts k → 0 ≡ get_or part_counts k 0
-no_part k n = others_zero with_parts part_counts refl k n
-
 -- ---- kinds that may stand at a place
 
 -- both parts of a limit fit a byte
@@ -68,43 +61,23 @@ low_small k = ltb-true _ 256 (entry_passes (λ i v. ltb v 256) 0 (λ i. refl) lo
 pub high_small : (k : ℕ) → get_or high_limits k 0 < 256
 high_small k = ltb-true _ 256 (entry_passes (λ i v. ltb v 256) 0 (λ i. refl) high_limits refl k)
 
-module _ (place : Place) (k r : ℕ) (e : r ≡ limits_at place k) where
-  pub none_allowed : r ≡ 65536 → allowed place k ≡ false
-  none_allowed f = go (allowed place k) (sym e ∙ f)
+module _ (place : Place) (k : ℕ) where
+  pub none_allowed : 65536 ≡ limits_at place k → allowed place k ≡ false
+  none_allowed e = go (allowed place k) e
     where
-      go : (b : Bool) → cond b (get_or low_limits k 0 + 256 * get_or high_limits k 0) 65536 ≡ 65536 → b ≡ false
+      go : (b : Bool) → 65536 ≡ cond b (get_or low_limits k 0 + 256 * get_or high_limits k 0) 65536 → b ≡ false
       go true g = absurd (omega (arith, g, low_small k, high_small k))
       go false g = refl
 
   -- a kind that may stand there, with its limits
-  pub some_allowed : (r ≡ 65536 → ⊥) →
-      (allowed place k ≡ true) × (r % 256 ≡ get_or low_limits k 0) × (r / 256 ≡ get_or high_limits k 0)
-  some_allowed f = go (allowed place k) e
+  pub some_allowed : (low high : ℕ) → low < 256 → high < 256 → low + 256 * high ≡ limits_at place k →
+      (allowed place k ≡ true) × (low ≡ get_or low_limits k 0) × (high ≡ get_or high_limits k 0)
+  some_allowed low high l h e = go (allowed place k) e
     where
-      go : (b : Bool) → r ≡ cond b (get_or low_limits k 0 + 256 * get_or high_limits k 0) 65536 →
-          (b ≡ true) × (r % 256 ≡ get_or low_limits k 0) × (r / 256 ≡ get_or high_limits k 0)
+      go : (b : Bool) → low + 256 * high ≡ cond b (get_or low_limits k 0 + 256 * get_or high_limits k 0) 65536 →
+          (b ≡ true) × (low ≡ get_or low_limits k 0) × (high ≡ get_or high_limits k 0)
       go true g = (refl, omega (arith, g, low_small k), omega (arith, g, low_small k))
-      go false g = absurd (f g)
-
--- what is fixed by the kind and what a node says itself
-pub parts_add : (x y z a b : ℕ) → a ≡ get_or part_counts x 0 → b ≡ said_parts x y z → a + b ≡ part_count x y z
-unfolding part_count
-parts_add x y z a b e f = rw (e, f) (go (eqb x 8) refl (eqb x 9) refl)
-  where
-    go : (s : Bool) → eqb x 8 ≡ s → (t : Bool) → eqb x 9 ≡ t →
-        get_or part_counts x 0 + cond s z (cond t y 0) ≡ cond s z (cond t y (get_or part_counts x 0))
-    go true i t j = rw (eqb-true x 8 i) (omega arith)
-    go false i true j = rw (eqb-true x 9 j) (omega arith)
-    go false i false j = omega arith
+      go false g = absurd (omega arith)
 
 pub few : (k : ℕ) → get_or part_counts k 0 ≤ 3
 few k = leb-true _ 3 (entry_passes (λ i v. leb v 3) 0 (λ i. refl) part_counts refl k)
-
-pub parts_small : (x y z : ℕ) → y < 256 → z < 256 → part_count x y z < 256
-unfolding part_count
-parts_small x y z h g = go (eqb x 8) (eqb x 9)
-  where
-    go : (s t : Bool) → cond s z (cond t y (get_or part_counts x 0)) < 256
-    go true t = g
-    go false true = h
-    go false false = omega (arith, few x)

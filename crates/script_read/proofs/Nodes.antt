@@ -1,15 +1,19 @@
 -- A node: what the code sees of it is what the definition says.
-use Rattle.prelude.specs.Kit.{ℕ, ◌≤◌, ◌<◌, ◌-◌, suc, zero, ◌*◌, ◌%◌, ◌^◌, ◌/◌, arith, true, false, Bool, cond, ◌≡◌}
+use Rattle.prelude.specs.Kit.{ℕ, ◌≤◌, ◌<◌, suc, zero, ◌*◌, ◌%◌, ◌^◌, ◌/◌, arith, true, false, Bool, cond, ◌≡◌}
 use Rattle.prelude.specs.Kit.{refl, ◌∙◌, sym, ap, inl, inr, ◌⊎◌, ⊎_elim, List, [], ◌∷◌, eqb, ltb, leb, ℤ, pos, negsuc}
 use Rattle.prelude.specs.Kit.{length, get_or, get_or-eq_default, ne_eqb, lt-ltb, eq-eqb, eqb-true, ltb-true, leb-true}
 use Rattle.prelude.specs.Kit.{le-leb, lt-leb, ltb-false}
+use Rattle.answers.specs.Numbers.{number_of}
 use Rattle.semantics.specs.Outcome.{Outcome, done, stop}
 use Rattle.semantics.specs.File as S
 use Rattle.semantics.specs.File.{Place, at_function, at_parameter, at_part, allowed, node_of, node_at, in_parts}
 use Rattle.semantics.specs.File.{low_limits, high_limits, look, looked}
-use Rattle.script_read.specs.Told.{Parted, node_outcome, parted, low_at, high_at}
+use Rattle.script_read.specs.Told.{Parted, node_outcome, fitting_outcome, parted, low_at, high_at}
+use Rattle.std.specs.Prelude.{Result, Ok, Err, MatchResult}
 use Rattle.script_read.specs.declared.Node.{Node}
-use Rattle.script_read.specs.declared.Node.TheVariants.{Fits, WrongKind, WrongOperand}
+use Rattle.script_read.specs.declared.Misfit.{Misfit}
+use Rattle.script_read.specs.declared.Misfit.TheVariants.{WrongKind, WrongOperand}
+use Rattle.script_read.specs.declared.Fault.{Fault}
 use Rattle.semantics.specs.Number.{signed, bytes_at}
 use Rattle.laws.specs.Tests.{no_equation}
 
@@ -28,13 +32,13 @@ low_number n h = rw (lt-ltb n (2 ^ 63) h)
 -- ---- an answer and the node of the definition
 
 -- the case of a node
-abbrev pub told_node : S.Node → Node
-told_node (S.fits h) = Fits h.kind h.low h.high
-told_node S.wrong_kind = WrongKind
-told_node S.wrong_operand = WrongOperand
+abbrev pub told_node : S.Node → Result Node Misfit
+told_node (S.fits h) = Ok (record { kind = h.kind; low = h.low; high = h.high })
+told_node S.wrong_kind = Err WrongKind
+told_node S.wrong_operand = Err WrongOperand
 
 -- the case tells what looking at the node gives, and is told by it
-module _ (k w : List ℕ) (place : Place) (p : ℕ) (n : Node) where
+module _ (k w : List ℕ) (place : Place) (p : ℕ) (n : Result Node Misfit) where
   pub node_says : n ≡ told_node (node_at k w place p) → node_outcome n p ≡ parted (look k w place p)
   unfolding look
   node_says e = rw e (go (node_at k w place p))
@@ -48,34 +52,34 @@ module _ (k w : List ℕ) (place : Place) (p : ℕ) (n : Node) where
   unfolding look
   node_told e = go n (node_at k w place p) e
     where
-      fitting : Outcome ℕ Parted → Node
-      fitting (done r q) = Fits r.kind r.low r.high
-      fitting (stop m q) = WrongKind
+      fitting : Outcome ℕ Parted → Result Node Misfit
+      fitting (done r q) = Ok (record { kind = r.kind; low = r.low; high = r.high })
+      fitting (stop m q) = Err WrongKind
 
-      go : (m : Node) (v : S.Node) → node_outcome m p ≡ parted (looked v p) → m ≡ told_node v
-      go (Fits x y z) (S.fits h) e = ap fitting e
-      go (Fits x y z) S.wrong_kind e = no_equation cc
-      go (Fits x y z) S.wrong_operand e = no_equation cc
-      go WrongKind (S.fits h) e = no_equation cc
-      go WrongKind S.wrong_kind e = refl
-      go WrongKind S.wrong_operand e = no_equation cc
-      go WrongOperand (S.fits h) e = no_equation cc
-      go WrongOperand S.wrong_kind e = no_equation cc
-      go WrongOperand S.wrong_operand e = refl
+      go : (m : Result Node Misfit) (v : S.Node) → node_outcome m p ≡ parted (looked v p) → m ≡ told_node v
+      go (Ok x) (S.fits h) e = ap fitting e
+      go (Ok x) S.wrong_kind e = no_equation cc
+      go (Ok x) S.wrong_operand e = no_equation cc
+      go (Err WrongKind) (S.fits h) e = no_equation cc
+      go (Err WrongKind) S.wrong_kind e = refl
+      go (Err WrongKind) S.wrong_operand e = no_equation cc
+      go (Err WrongOperand) (S.fits h) e = no_equation cc
+      go (Err WrongOperand) S.wrong_kind e = no_equation cc
+      go (Err WrongOperand) S.wrong_operand e = refl
 
 -- the parts of an operand that is read as an unsigned number
 module _ (d u : ℕ) where
-  pub low_wrong : get_or low_limits d 0 < u % 256 → WrongOperand ≡ told_node (in_parts d (signed u))
+  pub low_wrong : get_or low_limits d 0 < u % 256 → Err WrongOperand ≡ told_node (in_parts d (signed u))
   low_wrong h = go (ltb u (2 ^ 63)) refl
     where
-      go : (t : Bool) → ltb u (2 ^ 63) ≡ t → WrongOperand ≡ told_node (in_parts d (signed u))
+      go : (t : Bool) → ltb u (2 ^ 63) ≡ t → Err WrongOperand ≡ told_node (in_parts d (signed u))
       go true e = rw (e, lt-leb (u % 256) (get_or low_limits d 0) h)
       go false e = rw e
 
-  pub high_wrong : get_or high_limits d 0 < u / 256 → WrongOperand ≡ told_node (in_parts d (signed u))
+  pub high_wrong : get_or high_limits d 0 < u / 256 → Err WrongOperand ≡ told_node (in_parts d (signed u))
   high_wrong h = go (ltb u (2 ^ 63)) refl
     where
-      go : (t : Bool) → ltb u (2 ^ 63) ≡ t → WrongOperand ≡ told_node (in_parts d (signed u))
+      go : (t : Bool) → ltb u (2 ^ 63) ≡ t → Err WrongOperand ≡ told_node (in_parts d (signed u))
       go true e =
           rw (
             e,
@@ -86,7 +90,7 @@ module _ (d u : ℕ) where
       go false e = rw e
 
   pub in_range : u % 256 ≤ get_or low_limits d 0 → u / 256 ≤ get_or high_limits d 0 → get_or high_limits d 0 < 256 →
-      Fits d (u % 256) (u / 256) ≡ told_node (in_parts d (signed u))
+      Ok (record { kind = d; low = u % 256; high = u / 256 }) ≡ told_node (in_parts d (signed u))
   in_range l h s =
       rw (
         low_number u (omega arith),
@@ -102,21 +106,21 @@ none_past at_parameter = refl
 none_past at_part = refl
 
 module _ (k w : List ℕ) (place : Place) (p : ℕ) where
-  pub past : length k ≤ p → WrongKind ≡ told_node (node_at k w place p)
+  pub past : length k ≤ p → Err WrongKind ≡ told_node (node_at k w place p)
   unfolding node_at node_of
   past h = rw (get_or-eq_default k 255 {n = p} h, none_past place)
 
   module _ (d : ℕ) (is : d ≡ get_or k p 255) where
-    pub not_allowed : allowed place d ≡ false → WrongKind ≡ told_node (node_at k w place p)
+    pub not_allowed : allowed place d ≡ false → Err WrongKind ≡ told_node (node_at k w place p)
     unfolding node_at node_of
     not_allowed e = rw (← is, e)
 
     module _ (may : allowed place d ≡ true) where
-      pub number : d ≡ 2 → Fits 2 0 0 ≡ told_node (node_at k w place p)
+      pub number : d ≡ 2 → Ok (record { kind = d; low = 0; high = 0 }) ≡ told_node (node_at k w place p)
       unfolding node_at node_of
-      number e = rw (← is, may, eq-eqb d 2 e)
+      number e = rw (← is, may, eq-eqb d 2 e) (ap (λ (n : ℕ). Ok (record { kind = n; low = 0; high = 0 })) e)
 
-      pub judged : (d ≡ 2 → ⊥) → (u : ℕ) → u ≡ bytes_at 8 w (8 * p) → (r : Node) →
+      pub judged : (d ≡ 2 → ⊥) → (u : ℕ) → u ≡ bytes_at 8 w (8 * p) → (r : Result Node Misfit) →
           r ≡ told_node (in_parts d (signed u)) → r ≡ told_node (node_at k w place p)
       unfolding node_at node_of
       judged f u e r q = rw (← is, may, ne_eqb d 2 f, ← e) q
@@ -187,36 +191,33 @@ pub record Seen (k w : List ℕ) (place : Place) (p x y z : ℕ) : Type 0 where
   pub lowest : y ≤ get_or low_limits x 0
   pub highest : z ≤ get_or high_limits x 0
 
-pub record Halted (k w : List ℕ) (place : Place) (p c : ℕ) : Type 0 where
-  pub is : look k w place p ≡ stop c p
+pub record Halted (k w : List ℕ) (place : Place) (p c q : ℕ) : Type 0 where
+  pub is : look k w place p ≡ stop c q
 
 -- no node fits there
 pub record Unfit (k w : List ℕ) (place : Place) (p : ℕ) : Type 0 where
   pub is : (node_at k w place p ≡ S.wrong_kind) ⊎ (node_at k w place p ≡ S.wrong_operand)
 
-told_wrong_kind : (v : S.Node) → WrongKind ≡ told_node v → v ≡ S.wrong_kind
-told_wrong_kind (S.fits h) e = let z : ◌≡◌ {A = ℕ} 0 1 = cc in absurd (omega arith)
-told_wrong_kind S.wrong_kind e = refl
-told_wrong_kind S.wrong_operand e = let z : ◌≡◌ {A = ℕ} 0 1 = cc in absurd (omega arith)
+told_wrong : (v : S.Node) {m : Misfit} → Err m ≡ told_node v → (v ≡ S.wrong_kind) ⊎ (v ≡ S.wrong_operand)
+told_wrong (S.fits h) e = no_equation cc
+told_wrong S.wrong_kind e = inl refl
+told_wrong S.wrong_operand e = inr refl
 
-told_wrong_operand : (v : S.Node) → WrongOperand ≡ told_node v → v ≡ S.wrong_operand
-told_wrong_operand (S.fits h) e = let z : ◌≡◌ {A = ℕ} 0 1 = cc in absurd (omega arith)
-told_wrong_operand S.wrong_kind e = let z : ◌≡◌ {A = ℕ} 0 1 = cc in absurd (omega arith)
-told_wrong_operand S.wrong_operand e = refl
-
-module _ (k w : List ℕ) (place : Place) (p : ℕ) (n : Node) (e : node_outcome n p ≡ parted (look k w place p)) where
+module _ (k w : List ℕ) (place : Place) (p : ℕ) (n : Result Node Misfit)
+    (e : node_outcome n p ≡ parted (look k w place p)) where
   told : n ≡ told_node (node_at k w place p)
   told = node_told k w place p n e
 
-  pub seen : (x y z : ℕ) → n ≡ Fits x y z → Seen k w place p x y z
+  pub seen : (x : Node) → n ≡ Ok x → Seen k w place p x.kind x.low x.high
   unfolding look
-  seen x y z f = go (node_at k w place p) refl told
+  seen x f = go (node_at k w place p) refl (sym f ∙ told)
     where
-      go : (v : S.Node) → node_at k w place p ≡ v → n ≡ told_node v → Seen k w place p x y z
+      go : (v : S.Node) → node_at k w place p ≡ v → Ok x ≡ told_node v → Seen k w place p x.kind x.low x.high
       go (S.fits h) g t =
-          let i : h.kind ≡ x = cc in
-          let j : h.low ≡ y = cc in
-          let l : h.high ≡ z = cc in
+          let r : x ≡ record { kind = h.kind; low = h.low; high = h.high } = cc in
+          let i : h.kind ≡ x.kind = sym (ap (λ (y : Node). y.kind) r) in
+          let j : h.low ≡ x.low = sym (ap (λ (y : Node). y.low) r) in
+          let l : h.high ≡ x.high = sym (ap (λ (y : Node). y.high) r) in
           let fit = head_fits k w place p h g in
           record {
             node = h;
@@ -228,20 +229,26 @@ module _ (k w : List ℕ) (place : Place) (p : ℕ) (n : Node) (e : node_outcome
             lowest = rw (i, j) at fit.low;
             highest = rw (i, l) at fit.high;
           }
-      go S.wrong_kind g t = let z : ◌≡◌ {A = ℕ} 0 1 = cc in absurd (omega arith)
-      go S.wrong_operand g t = let z : ◌≡◌ {A = ℕ} 0 1 = cc in absurd (omega arith)
+      go S.wrong_kind g t = no_equation cc
+      go S.wrong_operand g t = no_equation cc
 
-  pub no_kind : n ≡ WrongKind → Halted k w place p 3
-  unfolding look
-  no_kind f = record { is = rw (told_wrong_kind (node_at k w place p) (sym f ∙ told)) }
+  pub unfit : (m : Misfit) → n ≡ Err m → Unfit k w place p
+  unfit m f = record { is = told_wrong (node_at k w place p) (sym f ∙ told) }
 
-  pub no_operand : n ≡ WrongOperand → Halted k w place p 4
-  unfolding look
-  no_operand f = record { is = rw (told_wrong_operand (node_at k w place p) (sym f ∙ told)) }
+-- a node that fits, and one that does not, as a fault names it
+module _ (k w : List ℕ) (place : Place) (p : ℕ) where
+  pub fitting : (x : Node) → fitting_outcome (Ok x) p ≡ parted (look k w place p) →
+      Seen k w place p x.kind x.low x.high
+  fitting x e = seen k w place p (Ok x) e x refl
 
-  pub unfit : (n ≡ WrongKind) ⊎ (n ≡ WrongOperand) → Unfit k w place p
-  unfit (inl f) = record { is = inl (told_wrong_kind (node_at k w place p) (sym f ∙ told)) }
-  unfit (inr f) = record { is = inr (told_wrong_operand (node_at k w place p) (sym f ∙ told)) }
+  pub halted : (f : Fault) → fitting_outcome (Err f) p ≡ parted (look k w place p) →
+      Halted k w place p (number_of f.refusal) f.node
+  halted f e = record { is = go (look k w place p) e }
+    where
+      go : (o : Outcome ℕ S.Head) → stop (number_of f.refusal) f.node ≡ parted o →
+          o ≡ stop (number_of f.refusal) f.node
+      go (done h q) g = no_equation cc
+      go (stop c q) g = let i : c ≡ number_of f.refusal = cc in let j : q ≡ f.node = cc in rw (i, j)
 
 -- the parts of the operand of a node
 module _ {k w : List ℕ} {place : Place} {p : ℕ} where
@@ -263,14 +270,30 @@ module _ {k w : List ℕ} {place : Place} {p : ℕ} where
     unfolding high_at
     high_none = ⊎_elim (λ e. rw e) (λ e. rw e) u.is
 
+-- the same of what the code has found
+module _ (k w : List ℕ) (place : Place) (p : ℕ) where
+  pub low_found : (n : Result Node Misfit) (r : ℕ) → node_outcome n p ≡ parted (look k w place p) →
+      MatchResult n (λ x. r ≡ x.low) (λ _. r ≡ 0) → r ≡ low_at k w place p
+  low_found (Ok x) r e f = f ∙ low_seen (seen k w place p (Ok x) e x refl)
+  low_found (Err m) r e f = f ∙ low_none (unfit k w place p (Err m) e m refl)
+
+  pub high_found : (n : Result Node Misfit) (r : ℕ) → node_outcome n p ≡ parted (look k w place p) →
+      MatchResult n (λ x. r ≡ x.high) (λ _. r ≡ 0) → r ≡ high_at k w place p
+  high_found (Ok x) r e f = f ∙ high_seen (seen k w place p (Ok x) e x refl)
+  high_found (Err m) r e f = f ∙ high_none (unfit k w place p (Err m) e m refl)
+
 -- a node that is taken is there
-pub inside : (k w : List ℕ) (place : Place) (p a b c : ℕ) (n : Node) →
-    node_outcome n p ≡ parted (look k w place p) → n ≡ Fits a b c → p < length k
-inside k w place p a b c n e f = go (ltb p (length k)) refl
+pub inside : (k w : List ℕ) (place : Place) (p : ℕ) (n : Result Node Misfit) →
+    node_outcome n p ≡ parted (look k w place p) → (x : Node) → n ≡ Ok x → p < length k
+inside k w place p n e x f = go (ltb p (length k)) refl
   where
     go : (t : Bool) → ltb p (length k) ≡ t → p < length k
     go true g = ltb-true p (length k) g
     go false g =
-        let q : WrongKind ≡ told_node (node_at k w place p) = past k w place p (ltb-false p (length k) g) in
+        let q : Err WrongKind ≡ told_node (node_at k w place p) = past k w place p (ltb-false p (length k) g) in
         let t : n ≡ told_node (node_at k w place p) = node_told k w place p n e in
-        let z : ◌≡◌ {A = ℕ} 0 1 = cc in absurd (omega arith)
+        no_equation cc
+
+pub fitting_inside : (k w : List ℕ) (place : Place) (p : ℕ) (x : Node) →
+    fitting_outcome (Ok x) p ≡ parted (look k w place p) → p < length k
+fitting_inside k w place p x e = inside k w place p (Ok x) e x refl

@@ -7,8 +7,7 @@ use Rattle.semantics.specs.Syntax.{Expr}
 use Rattle.semantics.specs.File.{at_function, at_parameter, at_part, part_count, parts, part, parameter, function}
 use Rattle.semantics.specs.File.{finish, script}
 use Rattle.script_read.specs.Told.{told, and_next, repeated}
-use Rattle.script_read.specs.declared.Read.{Read}
-use Rattle.script_read.specs.declared.Read.TheVariants.{Next, Refused}
+use Rattle.script_read.specs.Told.{Read, Next, Refused}
 use Rattle.script_read.proofs.Nodes.{Seen, Halted, head_fits}
 use Rattle.script_read.proofs.Sorts.{Sort, number, name, let_in, if_else, leaf, loop, sort_of, leaf_some}
 use Rattle.script_read.proofs.Sorts.{loop_some, shaped_parts, parts_of_loop}
@@ -59,7 +58,7 @@ module _ {k w : List ℕ} {p : ℕ} where
   unfolding part onward
   deep s d g = rw (g, s.is)
 
-  pub stopped : {c : ℕ} (d : ℕ) → Halted k w at_part p c → Refused c p ≡ told (part k w d p)
+  pub stopped : {c q : ℕ} (d : ℕ) → Halted k w at_part p c q → Refused c q ≡ told (part k w d p)
   unfolding part onward
   stopped zero e = rw e.is
   stopped (suc d) e = rw e.is
@@ -85,7 +84,7 @@ module _ {k w : List ℕ} {p : ℕ} where
   unfolding parameter onward
   parameter_goes s = rw (s.is, add-one)
 
-  pub parameter_stops : {c : ℕ} → Halted k w at_parameter p c → told (parameter k w p) ≡ Refused c p
+  pub parameter_stops : {c q : ℕ} → Halted k w at_parameter p c q → told (parameter k w p) ≡ Refused c q
   unfolding parameter onward
   parameter_stops e = rw e.is
 
@@ -103,7 +102,7 @@ module _ {k w : List ℕ} {p : ℕ} where
   function_parts s t r e g =
       sym (function_goes s ∙ ap (λ (u : Read). and_next u (λ q. told (part k w 64 q))) (sym e) ∙ g)
 
-  pub function_stops : {c : ℕ} → Halted k w at_function p c → Refused c p ≡ told (function k w p)
+  pub function_stops : {c q : ℕ} → Halted k w at_function p c q → Refused c q ≡ told (function k w p)
   unfolding function onward
   function_stops e = rw e.is
 

@@ -1,14 +1,13 @@
 -- The table that a walk over all functions marks: where the functions of a script stand.
-use Rattle.prelude.specs.Kit.{ℕ, ◌≤◌, ◌+◌, ◌<◌, suc, zero, arith, true, false, Bool, ◌≡◌, refl, ◌∙◌, sym, ap, subst}
-use Rattle.prelude.specs.Kit.{List, [], ◌∷◌, ltb, length, get_or, set, length-set, get_or-eq_default, get_or-set_other}
-use Rattle.prelude.specs.Kit.{get_or-set_same, ltb-true, ltb-false}
+use Rattle.prelude.specs.Kit.{ℕ, ◌≤◌, ◌+◌, ◌<◌, suc, zero, arith, ◌≡◌, refl, ◌∙◌, sym, ap, subst}
+use Rattle.prelude.specs.Kit.{List, [], ◌∷◌, length, get_or, set, length-set, get_or-set_other}
+use Rattle.prelude.specs.Kit.{get_or-set_same}
 use Rattle.semantics.specs.Outcome.{Outcome, done, stop, times}
 use Rattle.semantics.specs.Syntax.{Script, function_size}
 use Rattle.semantics.specs.File.{function, finish, script, read_file}
 use Rattle.script_read.specs.Told.{marked, mark_next, told}
+use Rattle.script_read.specs.Told.{Read, Next, Refused}
 use Rattle.script_read.specs.Starts.{start_of, Blank, Started, Started_by}
-use Rattle.script_read.specs.declared.Read.{Read}
-use Rattle.script_read.specs.declared.Read.TheVariants.{Next, Refused}
 use Rattle.script_read.proofs.Nodes.{get_d_any}
 use Rattle.script_read.proofs.Written.{After, after_bind, function_written}
 
@@ -112,28 +111,6 @@ not_started (stop m q) t n p e = tt
 pub refused_so : (l t : List ℕ) {n p : ℕ} → Refused n p ≡ told (read_file l) →
     (Refused n p ≡ told (read_file l)) × Started_by (read_file l) t
 refused_so l t {n} {p} e = (e, not_started (read_file l) t n p e)
-
--- a table that is cleared up to entry i
-pub record Clearing (t : List ℕ) (i : ℕ) : Type 0 where
-  pub long : length t ≡ 32
-  pub below : (j : ℕ) → j < i → get_or t j 1024 ≡ 1024
-
-pub cleared_one : {t : List ℕ} {i : ℕ} → Clearing t i → i < 32 → Clearing (set t i 1024) (i + 1)
-cleared_one {t} {i} c h = record { long = simp length-set c.long; below = λ j l. go j l (ltb j i) refl }
-  where
-    go : (j : ℕ) → j < i + 1 → (b : Bool) → ltb j i ≡ b → get_or (set t i 1024) j 1024 ≡ 1024
-    go j l true e =
-        get_or-set_other t i j 1024 1024 (λ x. omega (arith, ltb-true j i e)) ∙ c.below j (ltb-true j i e)
-    go j l false e =
-        let x : j ≡ i = omega (arith, ltb-false j i e) in
-        rw x (get_or-set_same t i 1024 1024 (omega (arith, c.long)))
-
-pub cleared_all : {t : List ℕ} {i : ℕ} → Clearing t i → 32 ≤ i → Blank t
-cleared_all {t} {i} c h = record { long = c.long; at = λ j. go j (ltb j 32) refl }
-  where
-    go : (j : ℕ) (b : Bool) → ltb j 32 ≡ b → get_or t j 1024 ≡ 1024
-    go j true e = c.below j (omega (arith, ltb-true j 32 e))
-    go j false e = get_or-eq_default t 1024 {n = j} (omega (arith, c.long, ltb-false j 32 e))
 
 -- the entries of a script's functions, whatever stands for the others
 pub started_within : {fs : Script} {t : List ℕ} → Started fs t → length fs ≤ 32 → (j : ℕ) → j < length fs →

@@ -1,8 +1,13 @@
 -- Loops over nodes that follow one another.
 use Rattle.prelude.specs.Kit.{ℕ, ◌+◌, ◌<◌, ◌-◌, suc, zero, arith, ◌≡◌, refl, ◌∙◌, sym, ap, List, set}
+use Rattle.std.specs.Prelude.{Result, IsErrAnd}
+use Rattle.std.proofs.lemmas.Result.{err_from_is_err_and}
+use Rattle.answers.specs.Numbers.{number_of}
+use Rattle.laws.specs.Tests.{no_equation}
+use Rattle.script_read.specs.declared.Fault.{Fault}
+use Rattle.script_read.specs.Told.{read_of}
 use Rattle.script_read.specs.Told.{and_next, repeated, marked, mark_next}
-use Rattle.script_read.specs.declared.Read.{Read}
-use Rattle.script_read.specs.declared.Read.TheVariants.{Next, Refused}
+use Rattle.script_read.specs.Told.{Read, Next, Refused}
 
 pub less_one : (f : ℕ) → (f ≡ 0 → ⊥) → f ≡ suc (f - 1)
 less_one zero h = absurd (h refl)
@@ -41,6 +46,42 @@ repeated_last f (suc c) p = go (f p) (λ q. repeated_last f c q)
         and_next r (repeated (suc c) f) ≡ and_next (and_next r (repeated c f)) f
     go (Next q) h = h q
     go (Refused n q) h = refl
+
+-- ---- so many turns are done
+
+module _ (f : ℕ → Read) where
+  pub none_done : (p : ℕ) → repeated 0 f p ≡ Next p
+  unfolding repeated
+  none_done p = refl
+
+  pub one_more : (i p₀ : ℕ) {p q : ℕ} → repeated i f p₀ ≡ Next p → Next q ≡ f p → repeated (i + 1) f p₀ ≡ Next q
+  one_more i p₀ {p} e g =
+      let s : i + 1 ≡ suc i = omega arith in
+      rw (s, repeated_last f i p₀, e) (sym g)
+
+  -- a refusal ends the walk, whatever turns are left
+  refused_early : (i j p₀ n q : ℕ) → repeated i f p₀ ≡ Refused n q → repeated (i + j) f p₀ ≡ Refused n q
+  unfolding repeated
+  refused_early zero j p₀ n q e = no_equation cc
+  refused_early (suc i) j p₀ n q e =
+      let s : suc i + j ≡ suc (i + j) = omega arith in
+      rw s (go (f p₀) (λ p. refused_early i j p n q) e)
+    where
+      go : (r : Read) → ((p : ℕ) → repeated i f p ≡ Refused n q → repeated (i + j) f p ≡ Refused n q) →
+          and_next r (repeated i f) ≡ Refused n q → and_next r (repeated (i + j) f) ≡ Refused n q
+      go (Next p) h e = h p e
+      go (Refused m p) h e = e
+
+  pub one_stops : (i c p₀ : ℕ) {p n q : ℕ} → repeated i f p₀ ≡ Next p → i < c → Refused n q ≡ f p →
+      Refused n q ≡ repeated c f p₀
+  one_stops i c p₀ {p} {n} {q} e l g =
+      let s : suc i + (c - suc i) ≡ c = omega arith in
+      sym (rw s at (refused_early (suc i) (c - suc i) p₀ n q (repeated_last f i p₀ ∙ (rw e (sym g)))))
+
+-- a refusal that is passed on
+pub passed_on : (r : Result ℕ Fault) (f : Fault) → IsErrAnd r (λ g. g ≡ f) →
+    read_of r ≡ Refused (number_of f.refusal) f.node
+passed_on r f e = let p = err_from_is_err_and r e in rw (p.1, p.2)
 
 -- a turn that marks where it begins
 marked_step : (f : ℕ → Read) (c p i : ℕ) (t : List ℕ) → 0 < c →

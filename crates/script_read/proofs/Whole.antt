@@ -4,7 +4,7 @@ use Rattle.prelude.specs.Kit.{length-drop, take_all, ne_eqb, lt-ltb, eq-eqb, le-
 use Rattle.laws.specs.Tests.{both_hold}
 use Rattle.semantics.specs.File.{script, read_file, between}
 use Rattle.script_read.specs.Told.{told}
-use Rattle.script_read.specs.declared.Read.TheVariants.{Refused}
+use Rattle.script_read.specs.Told.{Refused}
 use Rattle.semantics.specs.Number.{bytes_at}
 
 pub too_short : (l : List ℕ) → length l < 4 → Refused 1 0 ≡ told (read_file l)

@@ -1,44 +1,42 @@
 -- The rules by kind, and the loops over depths that decide them.
 use Rattle.prelude.specs.Kit.{ℕ, ◌≤◌, ◌+◌, ◌<◌, ◌-◌, suc, zero, arith, add-one, true, false, Bool, cond, ◌&&◌, ◌≡◌}
-use Rattle.prelude.specs.Kit.{refl, ◌∙◌, sym, ap, inl, Option, List, [], ◌∷◌, eqb, length, get_or, take, drop}
+use Rattle.prelude.specs.Kit.{refl, ◌∙◌, sym, ap, Option, List, [], ◌∷◌, eqb, length, get_or, take, drop}
 use Rattle.prelude.specs.Kit.{length-take, drop_of_length-le, drop-cons, get_or-take, ne_eqb, lt-ltb, eq-eqb, le-ltb}
 use Rattle.prelude.specs.Kit.{eqb-true}
-use Rattle.semantics.specs.Outcome.{Outcome, done, stop}
+use Rattle.std.specs.List.{list_all}
+use Rattle.std.specs.Bool.{then_some}
+use Rattle.semantics.specs.Outcome.{Outcome}
 use Rattle.semantics.specs.File.{at_function, at_parameter, part_count, part_counts, low_limits, high_limits}
 use Rattle.semantics.specs.Types.{Signature, all_are, same, some_if, index_rule, length_rule, replicate_rule, if_rule}
 use Rattle.script_read.specs.Told.{low_at, high_at}
-use Rattle.script_read.specs.declared.Node.TheVariants.{WrongKind}
+use Rattle.script_read.specs.declared.Misfit.TheVariants.{WrongKind}
 use Rattle.script_read.proofs.Limits.{NoneOf, few}
 use Rattle.script_read.proofs.Nodes.{node_says, past, unfit, low_none, high_none}
-use Rattle.script_rules.specs.declared.Judged.{Judged}
-use Rattle.script_rules.specs.declared.Judged.TheVariants.{Has, Broken}
+use Rattle.std.specs.Prelude as P
+use Rattle.std.specs.Prelude.{Some, None, Err}
 use Rattle.script_rules.specs.Rules.{depths_from, signature_at, there, called, rule_of}
 use Rattle.script_rules.specs.Rules.{judged_outcome, rule_outcome}
 
--- all of the first n depths are d
-module _ (d n : ℕ) (ds : List ℕ) (l : n ≤ length ds) where
-  abbrev pub Alike : ℕ → Type 0
-  Alike i = all_are d (take n ds) ≡ all_are d (drop i (take n ds))
+-- all of some depths are d
+alike : (d : ℕ) (l : List ℕ) → list_all (λ e. eqb e d) l ≡ all_are d l
+alike d [] = refl
+alike d (e ∷ l) = ap (λ b. eqb e d && b) (alike d l)
 
-  alike_step : (i : ℕ) → i < n →
-      all_are d (drop i (take n ds)) ≡ (eqb (get_or ds i 0) d && all_are d (drop (i + 1) (take n ds)))
-  alike_step i h = rw (add-one, drop-cons (take n ds) i 0 (simp length-take (omega arith)), get_or-take n ds i 0 h)
-
-  pub alike_goes : (i : ℕ) → i < n → get_or ds i 0 ≡ d → Alike i → Alike (i + 1)
-  alike_goes i h e v = v ∙ alike_step i h ∙ rw (eq-eqb (get_or ds i 0) d e)
-
-  pub alike_not : (i : ℕ) → i < n → (get_or ds i 0 ≡ d → ⊥) → Alike i → false ≡ all_are d (take n ds)
-  alike_not i h e v = sym (v ∙ alike_step i h ∙ rw (ne_eqb (get_or ds i 0) d e))
-
-  pub alike_all : (i : ℕ) → n ≤ i → Alike i → true ≡ all_are d (take n ds)
-  alike_all i h v = sym (v ∙ rw (drop_of_length-le (take n ds) {i = i} (simp length-take (omega arith))))
+pub judged_alike : (b : Bool) (d depth : ℕ) (l : List ℕ) → b ≡ list_all (λ e. eqb e d) l →
+    judged_outcome (then_some b depth) ≡ rule_outcome (some_if (all_are d l) depth)
+judged_alike b d depth l e = rw (← alike d l, ← e) (go b)
+  where
+    go : (b : Bool) → judged_outcome (then_some b depth) ≡ rule_outcome (some_if b depth)
+    go true = refl
+    go false = refl
 
 -- the parameters from node p on have the first n depths
-module _ (k w : List ℕ) (p n : ℕ) (ds : List ℕ) (l : n ≤ length ds) where
-  abbrev pub Matched : ℕ → Type 0
-  Matched i = same (depths_from k w n p) (take n ds) ≡ same (depths_from k w (n - i) (p + i)) (drop i (take n ds))
+abbrev pub Matched : List ℕ → List ℕ → ℕ → ℕ → List ℕ → ℕ → Type 0
+Matched k w p n ds i =
+    same (depths_from k w n p) (take n ds) ≡ same (depths_from k w (n - i) (p + i)) (drop i (take n ds))
 
-  pub match_starts : Matched 0
+module _ (k w : List ℕ) (p n : ℕ) (ds : List ℕ) (l : n ≤ length ds) where
+  pub match_starts : Matched k w p n ds 0
   match_starts =
       let e : n - 0 ≡ n = omega arith in
       let f : p + 0 ≡ p = omega arith in
@@ -54,14 +52,15 @@ module _ (k w : List ℕ) (p n : ℕ) (ds : List ℕ) (l : n ≤ length ds) wher
       let f : p + (i + 1) ≡ p + i + 1 = omega arith in
       rw (e, f, drop-cons (take n ds) i 0 (simp length-take (omega arith)), get_or-take n ds i 0 h, ← add-one i)
 
-  pub match_goes : (i : ℕ) → i < n → high_at k w at_parameter (p + i) ≡ get_or ds i 0 → Matched i → Matched (i + 1)
+  pub match_goes : (i : ℕ) → i < n → high_at k w at_parameter (p + i) ≡ get_or ds i 0 → Matched k w p n ds i →
+      Matched k w p n ds (i + 1)
   match_goes i h e v = v ∙ match_step i h ∙ rw (eq-eqb (high_at k w at_parameter (p + i)) (get_or ds i 0) e)
 
-  pub match_not : (i : ℕ) → i < n → (high_at k w at_parameter (p + i) ≡ get_or ds i 0 → ⊥) → Matched i →
+  pub match_not : (i : ℕ) → i < n → (high_at k w at_parameter (p + i) ≡ get_or ds i 0 → ⊥) → Matched k w p n ds i →
       false ≡ same (depths_from k w n p) (take n ds)
   match_not i h e v = sym (v ∙ match_step i h ∙ rw (ne_eqb (high_at k w at_parameter (p + i)) (get_or ds i 0) e))
 
-  pub match_all : (i : ℕ) → n ≤ i → Matched i → true ≡ same (depths_from k w n p) (take n ds)
+  pub match_all : (i : ℕ) → n ≤ i → Matched k w p n ds i → true ≡ same (depths_from k w n p) (take n ds)
   unfolding depths_from
   match_all i h v =
       let e : n - i ≡ 0 = omega arith in
@@ -71,8 +70,8 @@ module _ (k w : List ℕ) (p n : ℕ) (ds : List ℕ) (l : n ≤ length ds) wher
 pub signature_past : (k w : List ℕ) (p : ℕ) → length k ≤ p → signature_at k w p ≡ record { parameters = []; result = 0 }
 unfolding signature_at depths_from
 signature_past k w p h =
-    let says = node_says k w at_function p WrongKind (past k w at_function p h) in
-    let u = unfit k w at_function p WrongKind says (inl refl) in
+    let says = node_says k w at_function p (Err WrongKind) (past k w at_function p h) in
+    let u = unfit k w at_function p (Err WrongKind) says WrongKind refl in
     rw (← low_none u, ← high_none u)
 
 -- a call's parts
@@ -92,13 +91,13 @@ depths_length k w zero p = refl
 depths_length k w (suc n) p = ap suc (depths_length k w n (p + 1))
 
 module _ (k w : List ℕ) (p n : ℕ) (ds : List ℕ) where
-  abbrev pub Calls : Judged → Type 0
+  abbrev pub Calls : P.Option ℕ → Type 0
   Calls r = judged_outcome r ≡ rule_outcome (called (there k w p) (take n ds))
 
-  pub not_there : length k ≤ p → Calls Broken
+  pub not_there : length k ≤ p → Calls None
   not_there h = rw (le-ltb p (length k) h)
 
-  pub other_count : p < length k → n ≤ length ds → (c : ℕ) → c ≡ low_at k w at_function p → (c ≡ n → ⊥) → Calls Broken
+  pub other_count : p < length k → n ≤ length ds → (c : ℕ) → c ≡ low_at k w at_function p → (c ≡ n → ⊥) → Calls None
   unfolding signature_at
   other_count in_file l c e f =
       rw (
@@ -109,11 +108,11 @@ module _ (k w : List ℕ) (p n : ℕ) (ds : List ℕ) where
 
   module _ (in_file : p < length k) (c : ℕ) (ce : c ≡ low_at k w at_function p) (e : c ≡ n) (b : Bool)
       (f : b ≡ same (depths_from k w n (p + 1)) (take n ds)) where
-    pub call_fits : b ≡ true → (r : ℕ) → r ≡ high_at k w at_function p → Calls (Has r)
+    pub call_fits : b ≡ true → (r : ℕ) → r ≡ high_at k w at_function p → Calls (Some r)
     unfolding signature_at
     call_fits g r i = rw (lt-ltb p (length k) in_file, ← ce, e, ← f, g, i)
 
-    pub call_differs : b ≡ false → Calls Broken
+    pub call_differs : b ≡ false → Calls None
     unfolding signature_at
     call_differs g = rw (lt-ltb p (length k) in_file, ← ce, e, ← f, g)
 
@@ -181,25 +180,6 @@ module _ (signatures : ℕ → Option Signature) (x y z : ℕ) (ds : List ℕ) (
         ne_eqb x 18 f.1,
         ← e,
       ) g
-
--- an element's depth
-pub index_good : (a b : ℕ) → (a ≡ 0 → ⊥) → b ≡ 0 → done (a - 1) tt ≡ rule_outcome (index_rule (a ∷ b ∷ []))
-index_good zero b f g = absurd (f refl)
-index_good (suc a) b f g = rw g (ap (λ (n : ℕ). done n tt) (omega arith))
-
-pub index_bad : (a b : ℕ) → (a ≡ 0 → ⊥) → (b ≡ 0 → ⊥) → stop 7 tt ≡ rule_outcome (index_rule (a ∷ b ∷ []))
-index_bad zero b f g = absurd (f refl)
-index_bad (suc a) b f g = rw (ne_eqb b 0 g)
-
--- a length's depth
-pub length_good : (a : ℕ) → (a ≡ 0 → ⊥) → done 0 tt ≡ rule_outcome (length_rule (a ∷ []))
-length_good zero f = absurd (f refl)
-length_good (suc a) f = refl
-
--- a replicate's count is a number
-pub replicate_bad : (a b : ℕ) → (a ≡ 0 → ⊥) → stop 7 tt ≡ rule_outcome (replicate_rule (a ∷ b ∷ []))
-replicate_bad zero b f = absurd (f refl)
-replicate_bad (suc a) b f = refl
 
 -- at most 16 parts
 pub few_parts : (x y z : ℕ) → y ≤ get_or low_limits x 0 → z ≤ get_or high_limits x 0 → part_count x y z ≤ 16

@@ -1,13 +1,13 @@
 -- The rules of depths by kind: a node's depth by those of its parts, and the signatures of the functions.
 use Rattle.std.specs.Prelude.{cond, List, [], ◌∷◌, ℕ, zero, suc, ◌+◌, leb, ltb, eqb, length, get_or}
+use Rattle.std.specs.Prelude as P
+use Rattle.std.specs.Prelude.{Some, None}
 use Rattle.std.proofs.Math.Option.{Option, none, some}
 use Rattle.semantics.specs.Outcome.{Outcome, done, stop}
 use Rattle.semantics.specs.File.{at_function, at_parameter}
 use Rattle.semantics.specs.Types.{Rule, Signature, some_if, number_rule, literal_rule, call_rule, index_rule}
 use Rattle.semantics.specs.Types.{length_rule, iota_rule, replicate_rule, if_rule}
 use Rattle.script_read.specs.Told.{low_at, high_at}
-use Rattle.script_rules.specs.declared.Judged.{Judged}
-use Rattle.script_rules.specs.declared.Judged.TheVariants.{Has, Broken}
 
 module _ (kinds operands : List ℕ) where
   -- the depths of so many parameters
@@ -60,9 +60,9 @@ abbrev pub loop_ruled : ℕ → ℕ → ℕ → ℕ → Option ℕ
 loop_ruled kind s d e = cond (eqb kind 13) (array_rule e) (some_if (eqb e s) (cond (eqb kind 19) d s))
 
 -- document 01's number and value for each case: a depth, or 7
-abbrev pub judged_outcome : Judged → Outcome (Unit {0}) ℕ
-judged_outcome (Has d) = done d tt
-judged_outcome Broken = stop 7 tt
+abbrev pub judged_outcome : P.Option ℕ → Outcome (Unit {0}) ℕ
+judged_outcome (Some d) = done d tt
+judged_outcome None = stop 7 tt
 
 -- the depth that a rule gives, and where it gives none 7
 abbrev pub rule_outcome : Option ℕ → Outcome (Unit {0}) ℕ

@@ -1,19 +1,18 @@
 -- The turns over parameters and the ways out of a function and a script, in the terms of the code.
-use Rattle.prelude.specs.Kit.{ℕ, ◌≤◌, ◌+◌, ◌<◌, ◌-◌, arith, true, false, Bool, cond, ◌&&◌, and-true, ◌≡◌, refl, ◌∙◌}
+use Rattle.prelude.specs.Kit.{ℕ, ◌≤◌, ◌+◌, ◌<◌, ◌-◌, arith, true, false, Bool, suc, cond, ◌&&◌, and-true}
+use Rattle.prelude.specs.Kit.{◌≡◌, refl, ◌∙◌}
 use Rattle.prelude.specs.Kit.{sym, ap, ◌⊎◌, ⊎_elim, List, [], ◌∷◌, eqb, length, length-set, get_or, set}
 use Rattle.prelude.specs.Kit.{replicate, ne_eqb, eq-eqb}
 use Rattle.semantics.specs.Outcome.{Outcome, done, stop}
 use Rattle.semantics.specs.File as S
 use Rattle.semantics.specs.File.{at_function, at_parameter, look, looked, node_at}
 use Rattle.semantics.specs.Types.{main_shape}
-use Rattle.script_read.specs.Told.{Parted, node_outcome, parted, low_at, high_at, repeated}
-use Rattle.script_read.specs.declared.Node.{Node}
-use Rattle.script_read.specs.declared.Node.TheVariants.{WrongKind, WrongOperand}
-use Rattle.script_read.specs.declared.Read.{Read}
-use Rattle.script_read.specs.declared.Read.TheVariants.{Next, Refused}
+use Rattle.std.specs.Prelude.{Err}
+use Rattle.script_read.specs.Told.{Read, Next, Refused, Parted, node_outcome, parted, low_at, high_at, repeated}
+use Rattle.script_read.specs.declared.Misfit.{Misfit}
+use Rattle.script_read.specs.declared.Misfit.TheVariants.{WrongKind, WrongOperand}
 use Rattle.script_read.proofs.Limits.{low_small}
 use Rattle.script_read.proofs.Nodes.{Seen, unfit, head_fits, node_says, past}
-use Rattle.script_read.proofs.Turns.{less_one}
 use Rattle.script_read.proofs.Tables.{table_set, table_fresh}
 use Rattle.script_depths.proofs.Laws.{entry}
 use Rattle.script_rules.specs.Rules.{depths_from, signature_at}
@@ -43,33 +42,41 @@ module _ (k w : List ℕ) (c : ℕ) (ce : c ≡ low_at k w at_function 0) where
 
 -- looking past the nodes halts
 pub past_nodes : (k w : List ℕ) (place : S.Place) (p : ℕ) → length k ≤ p → parted (look k w place p) ≡ stop 3 p
-past_nodes k w place p h = sym (node_says k w place p WrongKind (past k w place p h))
+past_nodes k w place p h = sym (node_says k w place p (Err WrongKind) (past k w place p h))
 
 module _ (k w s : List ℕ) where
-  from_step : (c : ℕ) (γ : ℕ → ℕ) (p : ℕ) → 0 < c →
-      known_from k w s c γ p ≡ typed_parameter fresh_name (known_from k w s (c - 1)) γ p (node_at k w at_parameter p)
-  unfolding known_from
-  from_step c γ p h = ap (λ (n : ℕ). known_from k w s n γ p) (less_one c (omega arith))
-
-  -- c parameters are left, from node p on; the first by what looking at its node tells
+  -- the parameters that are left, by what looking at the node of the first tells; c are left behind it
   abbrev pub turned : ℕ → ℕ → List ℕ → Outcome ℕ Parted → Walked
-  turned c p t (done r q) = cond (eqb (get_or t r.low 0) 255)
-      (known_from k w s (c - 1) (depths (set t r.low r.high)) (p + 1)) (stop 7 p)
+  turned c p t (done r q) =
+      cond (eqb (get_or t r.low 0) 255) (known_from k w s c (depths (set t r.low r.high)) (p + 1)) (stop 7 p)
   turned c p t (stop n q) = stop 7 p
 
-  pub turn : (c p : ℕ) (t : List ℕ) → 0 < c → length t ≡ 256 →
-      known_from k w s c (depths t) p ≡ turned c p t (parted (look k w at_parameter p))
-  unfolding look
-  turn c p t h l = from_step c (depths t) p h ∙ go (node_at k w at_parameter p) refl
+  -- i of n parameters are done, the next is at node p
+  pub turn : (n i p : ℕ) (t : List ℕ) → i < n → length t ≡ 256 →
+      known_from k w s (n - i) (depths t) p ≡ turned (n - (i + 1)) p t (parted (look k w at_parameter p))
+  unfolding known_from look
+  turn n i p t h l =
+      let e : n - i ≡ suc (n - (i + 1)) = omega arith in
+      ap (λ (m : ℕ). known_from k w s m (depths t) p) e ∙ go (node_at k w at_parameter p) refl
     where
       go : (v : S.Node) → node_at k w at_parameter p ≡ v →
-          typed_parameter fresh_name (known_from k w s (c - 1)) (depths t) p v ≡ turned c p t (parted (looked v p))
+          typed_parameter fresh_name (known_from k w s (n - (i + 1))) (depths t) p v
+          ≡ turned (n - (i + 1)) p t (parted (looked v p))
       go (S.fits h) e =
           let f = head_fits k w at_parameter p h e in
           let b : h.low < 256 = omega (arith, low_small h.kind, f.low) in
           rw (entry t h.low l b, table_set 255 t h.low h.high (omega arith))
       go S.wrong_kind e = refl
       go S.wrong_operand e = refl
+
+  -- no parameter is there
+  pub no_parameter : (n i p : ℕ) (t : List ℕ) → i < n → length t ≡ 256 → (m : Misfit) →
+      node_outcome (Err m) p ≡ parted (look k w at_parameter p) → stop 7 p ≡ known_from k w s (n - i) (depths t) p
+  no_parameter n i p t h l m e = sym (turn n i p t h l ∙ ap (turned (n - (i + 1)) p t) (sym e) ∙ go m)
+    where
+      go : (m : Misfit) → turned (n - (i + 1)) p t (node_outcome (Err m) p) ≡ stop 7 p
+      go WrongKind = refl
+      go WrongOperand = refl
 
   pub body_next : (c : ℕ) (γ : ℕ → ℕ) (p : ℕ) → c ≡ 0 → known_from k w s c γ p ≡ known_types k w s 64 γ p
   unfolding known_from
@@ -95,14 +102,13 @@ module _ (k w s : List ℕ) where
     pub result_differs : (d q : ℕ) → b ≡ done d q → (d ≡ z → ⊥) → Refused 7 p ≡ known_function k w s p
     result_differs d q e f = sym (by_body ∙ rw (e, ne_eqb d z f))
 
-    pub body_faulty : (m : ℕ) → b ≡ stop 7 m → Refused 7 m ≡ known_function k w s p
-    body_faulty m e = sym (by_body ∙ rw e)
+    pub body_faulty : (c m : ℕ) → b ≡ stop c m → Refused c m ≡ known_function k w s p
+    body_faulty c m e = sym (by_body ∙ rw e)
 
-  pub no_function : (p : ℕ) (n : Node) → node_outcome n p ≡ parted (look k w at_function p) →
-      (n ≡ WrongKind) ⊎ (n ≡ WrongOperand) →
+  pub no_function : (p : ℕ) (m : Misfit) → node_outcome (Err m) p ≡ parted (look k w at_function p) →
       Refused 7 p ≡ known_function k w s p
   unfolding known_function
-  no_function p n e f = ⊎_elim (λ g. rw g) (λ g. rw g) (unfit k w at_function p n e f).is
+  no_function p m e = ⊎_elim (λ g. rw g) (λ g. rw g) (unfit k w at_function p (Err m) e m refl).is
 
   -- a script
   module _ (functions : ℕ) (b : Bool) (be : b ≡ main_shape (signature_at k w 0)) where

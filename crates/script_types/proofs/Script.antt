@@ -7,9 +7,7 @@ use Rattle.semantics.specs.Syntax.{Expr, size, Parameter, Function, Script, func
 use Rattle.semantics.specs.File.{at_function}
 use Rattle.semantics.specs.Types.{Checked, Signature, signature, check, parameter_depths, result_rule, some_if}
 use Rattle.semantics.specs.Types.{check_function, function_faults, signatures_of, main_shape, type_faults}
-use Rattle.script_read.specs.Told.{low_at, high_at, repeated}
-use Rattle.script_read.specs.declared.Read.{Read}
-use Rattle.script_read.specs.declared.Read.TheVariants.{Next, Refused}
+use Rattle.script_read.specs.Told.{Read, Next, Refused, low_at, high_at, repeated}
 use Rattle.script_read.proofs.Written.{Written, HeadAt, ParametersWritten, FunctionWritten, ScriptWritten}
 use Rattle.script_read.proofs.Found.{Finds, follow}
 use Rattle.script_read.specs.Starts.{start_of}

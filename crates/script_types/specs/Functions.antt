@@ -5,9 +5,7 @@ use Rattle.semantics.specs.Outcome.{done, stop}
 use Rattle.semantics.specs.File as S
 use Rattle.semantics.specs.File.{at_function, at_parameter, node_at}
 use Rattle.semantics.specs.Types.{main_shape}
-use Rattle.script_read.specs.Told.{repeated}
-use Rattle.script_read.specs.declared.Read.{Read}
-use Rattle.script_read.specs.declared.Read.TheVariants.{Next, Refused}
+use Rattle.script_read.specs.Told.{Read, Next, Refused, repeated}
 use Rattle.script_rules.specs.Rules.{signature_at}
 use Rattle.script_depths.specs.Walk.{Walked, types, known_types}
 

@@ -1,6 +1,8 @@
 -- Acquiring a cell: a law for each way out of the code.
 use Rattle.prelude.specs.Kit.{ℕ, ◌≤◌, ◌+◌, ◌<◌, ◌-◌, ◌*◌, arith, true, false, Bool, ◌≡◌, refl, ◌∙◌, sym, ap, List, []}
 use Rattle.prelude.specs.Kit.{ℤ, length, get_or, length-set, lt-ltb, le-ltb, ltb-true}
+use Rattle.std.specs.Prelude.{Some, slice_get}
+use Rattle.std.proofs.lemmas.Option.{get_or_from_slice_get}
 use Rattle.semantics.specs.Outcome.{Outcome, done, stop}
 use Rattle.semantics.specs.Store.{Store, cell, cell_count, with_first, with_cell, has_free, filled, acquired}
 use Rattle.semantics.specs.Store.{free_cells}
@@ -8,7 +10,8 @@ use Rattle.semantics.specs.Words.{cells_in, store_of}
 use Rattle.laws.specs.Levels.{taken_with}
 use Rattle.store_words.proofs.CellWords.{store_size, first_is, next_is}
 use Rattle.store_words.proofs.Written.{Written, written_store}
-use Rattle.store.specs.Acquiring.{Gained, gained, first_cell, next_cell, Remaining}
+use Rattle.store.specs.declared.Gained.{Gained}
+use Rattle.store.specs.Acquiring.{gained, first_cell, next_cell, Remaining}
 
 -- ---- how many cells remain free
 
@@ -54,11 +57,14 @@ module _ (slots : List ℤ) (heads : List ℕ) where
   first_out h = le-ltb (store_of slots heads).first (cell_count (store_of slots heads))
       (omega (arith, store_size slots heads, first_is slots heads))
 
-  pub none_acquired : (depth free : ℕ) (words : List ℤ) → cells_in slots heads ≤ get_or heads 0 0 →
+  -- the free list's first cell c is not there
+  pub none_acquired : (depth free : ℕ) (words : List ℤ) (c : ℕ) → Some c ≡ slice_get heads 0 → cells_in slots heads ≤ c →
       (stop 25 tt ≡ next_cell free (store_of slots heads))
       × (store_of slots heads ≡ acquired depth words (store_of slots heads))
   unfolding next_cell acquired
-  none_acquired depth free words h = (sym (rw (first_out h) refl), sym (rw (first_out h) refl))
+  none_acquired depth free words c e h =
+      let out = first_out (rw (get_or_from_slice_get heads 0 c 0 (sym e)) h) in
+      (sym (rw out refl), sym (rw out refl))
 
   -- where the heads have no word, no cell is free
   module _ (e : length heads ≡ 0) where
@@ -79,16 +85,18 @@ module _ (slots : List ℤ) (heads : List ℕ) where
     unfolding acquired
     acquired_of_empty depth words = rw none_in_empty refl
 
-  pub one_acquired : (depth free : ℕ) {slots' : List ℤ} {heads' : List ℕ} →
-      Written slots heads (get_or heads 0 0) (get_or heads (4 + 4 * get_or heads 0 0) 0) 1 0 depth 0 slots' heads' →
-      get_or heads 0 0 < cells_in slots heads →
-      (done (gained (get_or heads 0 0) (free - 1)) tt ≡ next_cell free (store_of slots heads))
+  -- the free list's first cell c is there, and was written
+  pub one_acquired : (depth free : ℕ) (c : ℕ) {slots' : List ℤ} {heads' : List ℕ} → Some c ≡ slice_get heads 0 →
+      Written slots heads c (get_or heads (4 + 4 * c) 0) 1 0 depth 0 slots' heads' → c < cells_in slots heads →
+      (done (gained c (free - 1)) tt ≡ next_cell free (store_of slots heads))
       × (store_of slots' heads' ≡ acquired depth [] (store_of slots heads))
-  unfolding next_cell acquired filled with_first store_of
-  one_acquired depth free w h = (
-    sym (rw (first_in h, first_is slots heads) refl),
-    sym (rw (first_in h, first_is slots heads, next_is slots heads (get_or heads 0 0) h) (sym (written_store w h))),
-  )
+  unfolding next_cell acquired filled with_first store_of with_cell cell
+  one_acquired depth free c e w h =
+      let is = get_or_from_slice_get heads 0 c 0 (sym e) in
+      let first = first_in (rw is h) in (
+        sym (rw (first, first_is slots heads, is) refl),
+        sym (rw (first, first_is slots heads, is, next_is slots heads c h) (sym (written_store w h))),
+      )
 
 -- what an acquire answers and leaves where the heads have no word
 pub ruleset of_empty = (first_of_empty, next_of_empty, acquired_of_empty)

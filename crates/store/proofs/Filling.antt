@@ -9,7 +9,8 @@ use Rattle.semantics.specs.Store.{acquired, appended}
 use Rattle.semantics.specs.Store as C
 use Rattle.laws.specs.Cells.{same_cell, same_store, with_here}
 use Rattle.store_words.proofs.Tables.{tabulate_same, set_tabulate}
-use Rattle.store.specs.Acquiring.{Gained, gained, next_cell, appended_all}
+use Rattle.store.specs.declared.Gained.{Gained}
+use Rattle.store.specs.Acquiring.{gained, next_cell, appended_all}
 
 -- ---- one word more in a cell
 

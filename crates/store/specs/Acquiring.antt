@@ -1,22 +1,16 @@
 -- What an acquire answers, and elements appended one after another.
-use Rattle.std.specs.Prelude.{◌≡◌, cond, List, [], ◌∷◌, ℕ, ◌-◌, ℤ}
+use Rattle.std.specs.Prelude.{◌≡◌, cond, List, [], ◌∷◌, ℕ, ◌-◌, ℤ, Option, Some, None}
 use Rattle.semantics.specs.Outcome.{Outcome, done, stop}
 use Rattle.semantics.specs.Store.{Store, cell, has_free, appended, free_cells}
-use Rattle.store.specs.declared.Acquired.{Acquired}
-use Rattle.store.specs.declared.Acquired.TheVariants.{Cell, NoneFree}
-
--- a cell that was acquired, and how many free cells remain
-pub record Gained : Type 0 where
-  pub cell : ℕ
-  pub left : ℕ
+use Rattle.store.specs.declared.Gained.{Gained}
 
 abbrev pub gained : ℕ → ℕ → Gained
 gained c n = record { cell = c; left = n }
 
 -- document 01's number and value for each case: a cell, or 25
-abbrev pub acquired_outcome : Acquired → Outcome (Unit {0}) Gained
-acquired_outcome (Cell c left) = done (gained c left) tt
-acquired_outcome NoneFree = stop 25 tt
+abbrev pub acquired_outcome : Option Gained → Outcome (Unit {0}) Gained
+acquired_outcome (Some g) = done g tt
+acquired_outcome None = stop 25 tt
 
 -- the free list's first cell, after which so many are free, and where there is none 25
 unfoldable pub first_cell : Store → ℕ → Outcome (Unit {0}) Gained

@@ -5,6 +5,7 @@
 ghost use Rattle.std.specs.Prelude.{◌≡◌, ◌+◌, ◌-◌, ◌*◌, ◌<◌, [], length, eqb};
 ghost use Rattle.semantics.specs.Store.{cell, retained, acquired, appended, overwritten};
 ghost use Rattle.semantics.specs.Words.{store_of};
+ghost use Rattle.store_words.specs.Parts.{HasWords};
 ghost use Rattle.store.specs.Acquiring.{acquired_outcome, next_cell, Remaining, appended_all};
 
 // One reference more to a cell.
@@ -13,53 +14,42 @@ pub fn retain(slots: &[i64], heads: &mut [u32], c: usize)
         ≡ retained c (store_of slots.now heads.old) }
 {
     if store_words::is_cell(slots, heads, c) {
-        let n = heads[1 + 4 * c];
-        if n < 4294967295 {
-            heads[1 + 4 * c] = n + 1;
-        }
+        heads[1 + 4 * c] = heads[1 + 4 * c].saturating_add(1);
     }
 }
 
-// What an acquire answers: the cell and how many free cells remain, or that none is free.
+// A cell that was acquired, and how many free cells remain.
 #[derive(Clone, Copy)]
-pub enum Acquired {
-    Cell(usize, u32),
-    NoneFree,
-}
-
-// One free cell fewer.
-fn one_fewer(free: u32) -> u32
-    ensures { result ≡ free - 1 }
-{
-    if free == 0 { 0 } else { free - 1 }
+pub struct Gained {
+    pub cell: usize,
+    pub left: u32,
 }
 
 // Acquires the free list's first cell, with no elements; so many cells were free.
 #[tactic(auto, using(crate::proofs::Acquiring::of_empty))]
-pub fn acquire_empty(slots: &mut [i64], heads: &mut [u32], depth: u32, free: u32) -> Acquired
+pub fn acquire_empty(slots: &mut [i64], heads: &mut [u32], depth: u32, free: u32) -> Option<Gained>
     ensures { (acquired_outcome result ≡ next_cell free (store_of slots.old heads.old))
         × (store_of slots.new heads.new
         ≡ acquired depth [] (store_of slots.old heads.old))
         × Remaining free (store_of slots.old heads.old) (acquired_outcome result)
         (store_of slots.new heads.new) }
 {
-    if heads.len() == 0 {
-        return Acquired::NoneFree;
-    }
-    let c = heads[0] as usize;
+    let c = *heads.first()? as usize;
     if !store_words::is_cell(slots, heads, c) {
-        return Acquired::NoneFree;
+        return None;
     }
-    let next = heads[4 + 4 * c];
-    heads[0] = next;
+    heads[0] = heads[4 + 4 * c];
     store_words::write_head(heads, c, 1, 0, depth, 0);
     store_words::clear_slots(slots, c);
-    Acquired::Cell(c, one_fewer(free))
+    Some(Gained {
+        cell: c,
+        left: free.saturating_sub(1),
+    })
 }
 
 // One element more in a cell that is there and has room.
 pub fn append_within(slots: &mut [i64], heads: &mut [u32], c: usize, w: i64)
-    requires { (c < 256) × (4 * c + 4 < length heads.old) × (16 * c + 16 < length slots.old) }
+    requires { HasWords slots.old heads.old c }
     ensures { store_of slots.new heads.new
         ≡ appended c w (store_of slots.old heads.old) }
 {
@@ -82,14 +72,12 @@ pub fn append(slots: &mut [i64], heads: &mut [u32], c: usize, w: i64)
 
 // Another word for an element of a cell that is there.
 pub fn overwrite_within(slots: &mut [i64], heads: &[u32], c: usize, i: usize, w: i64)
-    requires { (c < 256) × (4 * c + 4 < length heads.now) × (16 * c + 16 < length slots.old) }
+    requires { HasWords slots.old heads.now c }
     ensures { store_of slots.new heads.now
         ≡ overwritten c i w (store_of slots.old heads.now) }
 {
-    if i < heads[2 + 4 * c] as usize {
-        if i < 16 {
-            slots[1 + 16 * c + i] = w;
-        }
+    if i < heads[2 + 4 * c] as usize && i < 16 {
+        slots[1 + 16 * c + i] = w;
     }
 }
 
@@ -97,10 +85,7 @@ pub fn overwrite_within(slots: &mut [i64], heads: &[u32], c: usize, i: usize, w:
 pub fn is_alone(slots: &[i64], heads: &[u32], c: usize) -> bool
     ensures { result ≡ eqb (cell (store_of slots.now heads.now) c).count 1 }
 {
-    if !store_words::is_cell(slots, heads, c) {
-        return false;
-    }
-    heads[1 + 4 * c] == 1
+    store_words::is_cell(slots, heads, c) && heads[1 + 4 * c] == 1
 }
 
 // These elements more in a cell, as far as it has room.
@@ -108,11 +93,8 @@ fn append_all(slots: &mut [i64], heads: &mut [u32], c: usize, words: &[i64])
     ensures { store_of slots.new heads.new
         ≡ appended_all c words.now (store_of slots.old heads.old) }
 {
-    let mut i: usize = 0;
-    while i < words.len() {
-        let w = words[i];
+    for &w in words {
         append(slots, heads, c, w);
-        i = i + 1;
     }
 }
 
@@ -124,18 +106,14 @@ pub fn acquire(
     depth: u32,
     words: &[i64],
     free: u32,
-) -> Acquired
+) -> Option<Gained>
     ensures { (acquired_outcome result ≡ next_cell free (store_of slots.old heads.old))
         × (store_of slots.new heads.new
         ≡ acquired depth words.now (store_of slots.old heads.old))
         × Remaining free (store_of slots.old heads.old) (acquired_outcome result)
         (store_of slots.new heads.new) }
 {
-    match acquire_empty(slots, heads, depth, free) {
-        Acquired::Cell(c, left) => {
-            append_all(slots, heads, c, words);
-            Acquired::Cell(c, left)
-        }
-        Acquired::NoneFree => Acquired::NoneFree,
-    }
+    let gained = acquire_empty(slots, heads, depth, free)?;
+    append_all(slots, heads, gained.cell, words);
+    Some(gained)
 }

@@ -1,5 +1,5 @@
 -- The free list followed.
-use Rattle.prelude.specs.Kit.{ℕ, ◌≤◌, ◌<◌, ◌-◌, suc, zero, arith, ◌≡◌, refl, ◌∙◌, sym, ap, ap₂, List, [], ◌∷◌, lt-ltb}
+use Rattle.prelude.specs.Kit.{ℕ, ◌≤◌, ◌<◌, suc, zero, ◌≡◌, refl, ◌∙◌, sym, ap, ap₂, List, [], ◌∷◌, lt-ltb}
 use Rattle.prelude.specs.Kit.{le-ltb}
 use Rattle.semantics.specs.Basics.{each}
 use Rattle.semantics.specs.Store.{Store, cell, cell_count}
@@ -46,16 +46,13 @@ module _ {σ : Store} {c₀ n : ℕ} {met₀ : List ℕ} {c left : ℕ} {met : L
     sym (p.meets ∙ ap (λ (l : List ℕ). tally l met) (free_out σ c left h)),
   )
 
-  pub following_more : c < cell_count σ → (left ≡ 0 → ⊥) → {met' : List ℕ} {next : ℕ} → met' ≡ tally_one c met →
-      next ≡ (cell σ c).next → Following σ c₀ n met₀ next (left - 1) met'
+  pub following_more : c < cell_count σ → (less : ℕ) → left ≡ suc less → {met' : List ℕ} {next : ℕ} →
+      met' ≡ tally_one c met → next ≡ (cell σ c).next → Following σ c₀ n met₀ next less met'
   unfolding each
-  following_more h f {met'} {next} e q = record {
-    ends = p.ends ∙ ap (end_from σ c) one_less ∙ end_in σ c (left - 1) h
-        ∙ ap (λ (x : ℕ). end_from σ x (left - 1)) (sym q);
-    meets = p.meets ∙ ap (λ (m : ℕ). tally (free_from σ c m) met) one_less
-        ∙ ap (λ (l : List ℕ). tally l met) (free_in σ c (left - 1) h)
-        ∙ ap₂ (λ (x : ℕ) (counts : List ℕ). tally (free_from σ x (left - 1)) counts) (sym q) (sym e);
+  following_more h less f {met'} {next} e q = record {
+    ends = p.ends ∙ ap (end_from σ c) f ∙ end_in σ c less h
+        ∙ ap (λ (x : ℕ). end_from σ x less) (sym q);
+    meets = p.meets ∙ ap (λ (m : ℕ). tally (free_from σ c m) met) f
+        ∙ ap (λ (l : List ℕ). tally l met) (free_in σ c less h)
+        ∙ ap₂ (λ (x : ℕ) (counts : List ℕ). tally (free_from σ x less) counts) (sym q) (sym e);
   }
-    where
-      one_less : left ≡ suc (left - 1)
-      one_less = omega (arith, f)

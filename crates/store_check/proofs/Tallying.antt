@@ -1,23 +1,20 @@
 -- Counting how often each cell is in a list, and that the counts found are the occurrences.
-use Rattle.prelude.specs.Kit.{ℕ, ◌≤◌, ◌+◌, ◌<◌, suc, arith, ℕ_discrete, ◌≡◌, refl, ◌∙◌, sym, ap, List, [], ◌∷◌, ◌++◌}
+use Rattle.prelude.specs.Kit.{min, ℕ, ◌≤◌, ◌+◌, ◌<◌, suc, arith, ℕ_discrete, ◌≡◌, refl, ◌∙◌, sym, ap, List, [], ◌∷◌, ◌++◌}
 use Rattle.prelude.specs.Kit.{length, get_or, set, length-set, replicate, length-replicate, get_or-replicate}
-use Rattle.prelude.specs.Kit.{get_or-set_other, get_or-set_same, set_out, set-get_or}
+use Rattle.prelude.specs.Kit.{get_or-set_other, get_or-set_same, set_out}
 use Rattle.semantics.specs.Basics.{each, occurrences}
 use Rattle.semantics.specs.Store.{one_more}
 use Rattle.laws.specs.Counts.{occurs_here, occurs_after}
-use Rattle.store_words.proofs.Counting.{most, more_small, more_full}
+use Rattle.store_words.proofs.Counting.{most, more_small, saturates}
 use Rattle.store_check.specs.Holders.{tally_one, tally}
 
 -- ---- one count written
 
 module _ (counts : List ℕ) (c : ℕ) where
-  pub count_small : get_or counts c 0 < most → set counts c (get_or counts c 0 + 1) ≡ tally_one c counts
+  pub count_in : (n : ℕ) → get_or counts c 0 ≤ most → n ≡ min (get_or counts c 0 + 1) most →
+      set counts c n ≡ tally_one c counts
   unfolding tally_one
-  count_small b = ap (set counts c) (sym (more_small (get_or counts c 0) b))
-
-  pub count_full : most ≤ get_or counts c 0 → counts ≡ tally_one c counts
-  unfolding tally_one
-  count_full b = sym (ap (set counts c) (more_full (get_or counts c 0) b) ∙ set-get_or counts c 0)
+  count_in n b e = ap (set counts c) (e ∙ saturates (get_or counts c 0) b)
 
   pub count_out : length counts ≤ c → counts ≡ tally_one c counts
   unfolding tally_one

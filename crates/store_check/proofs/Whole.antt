@@ -1,12 +1,12 @@
 -- The whole test: what is compared cell by cell is what a sound store asks for.
-use Rattle.prelude.specs.Kit.{ℕ, ◌≤◌, ◌+◌, ◌<◌, suc, zero, arith, true, false, Bool, ◌&&◌, ◌||◌, and-true, and_comm}
+use Rattle.prelude.specs.Kit.{take, ℕ, ◌≤◌, ◌+◌, ◌<◌, suc, zero, arith, true, false, Bool, ◌&&◌, ◌||◌, and-true, and_comm}
 use Rattle.prelude.specs.Kit.{◌≡◌, refl, ◌∙◌, sym, ap, ap₂, List, [], ◌∷◌, ◌++◌, eqb, leb, ℤ, pos, length, get_or}
 use Rattle.prelude.specs.Kit.{replicate, ne_eqb, eq-eqb, eqb-true}
 use Rattle.semantics.specs.Basics.{all, occurrences, tabulate}
 use Rattle.semantics.specs.Store.{Cell, Store, cell, elements, inner, named_by}
 use Rattle.semantics.specs.Words.{cells_in, cell_at, store_of, shaped}
 use Rattle.semantics.specs.Sound.{zeros_from, elements_used, formed_as, formed, free_from, end_from, free_list, as_due}
-use Rattle.semantics.specs.Sound.{due, list_sound, names_used, all_inner, places, counted, totals_used, sound}
+use Rattle.semantics.specs.Sound.{due, list_sound, names_used, all_used, all_inner, places, counted, totals_used, sound}
 use Rattle.semantics.specs.Sound.{sound_words}
 use Rattle.laws.specs.Tests.{both_hold}
 use Rattle.laws.specs.Levels.{free_from_length}
@@ -14,9 +14,10 @@ use Rattle.laws.specs.Cells.{named_by_none}
 use Rattle.store_words.proofs.CellWords.{cell_is, store_size, few_cells}
 use Rattle.store_words.proofs.Spelling.{shaped_means}
 use Rattle.store_check.specs.Holders.{held_as, all_held, held_places, holders, Gathered, tally}
-use Rattle.store_check.specs.Fitting.{head_fits, used_from, cell_fits, fits}
+use Rattle.store_check.specs.Fitting.{head_fits, cell_fits, fits}
 use Rattle.store_check.proofs.Ranges.{all_same, all_both}
 use Rattle.store_check.proofs.Tallying.{tallied}
+use Rattle.store_check.proofs.Gathering.{totals_word}
 use Rattle.store_check.proofs.Comparing.{no_second}
 
 -- ---- tests in another order
@@ -117,10 +118,11 @@ module _ (slots : List ℤ) (heads : List ℕ) where
   first_words fit =
       let s = shaped_means slots heads fit in (omega (arith, s.slots_long), omega (arith, s.heads_long))
 
-  totals_alike : (d : ℕ) → used_from (store_of slots heads) d slots 0 1 ≡ totals_used d (store_of slots heads)
-  unfolding all store_of
-  totals_alike zero = refl
-  totals_alike (suc d) = and-true (names_used σ d (get_or slots 0 (pos 0)))
+  totals_alike : shaped slots heads ≡ true → (d : ℕ) →
+      elements_used (store_of slots heads) d (take 1 slots) (length (take 1 slots)) ≡ totals_used d (store_of slots heads)
+  unfolding all all_used store_of
+  totals_alike fit zero = refl
+  totals_alike fit (suc d) = rw (totals_word slots (first_words fit).0) (and-true (names_used σ d (get_or slots 0 (pos 0))))
 
   module _ (d : ℕ) (fit : shaped slots heads ≡ true) {end : ℕ} {met counts : List ℕ}
       (p : end ≡ end_from (store_of slots heads) (get_or heads 0 0) (cells_in slots heads))
@@ -146,11 +148,11 @@ module _ (slots : List ℤ) (heads : List ℕ) where
         (all_both (as_due σ free) (counted_by σ (holders d σ)) 0 (cells_in slots heads))
 
     sound_is : sound_words d slots heads ≡ eqb end (cells_in slots heads)
-        && (used_from (store_of slots heads) d slots 0 1
+        && (elements_used (store_of slots heads) d (take 1 slots) (length (take 1 slots))
         && all (fits (store_of slots heads) met counts) 0 (cells_in slots heads))
     unfolding sound_words sound list_sound free_list store_of
     sound_is = rw (fit, store_size slots heads, p)
-        (sym (ap₂ (λ (t b : Bool). eqb last (cells_in slots heads) && (t && b)) (totals_alike d) all_fit
+        (sym (ap₂ (λ (t b : Bool). eqb last (cells_in slots heads) && (t && b)) (totals_alike fit d) all_fit
         ∙ in_turn (eqb last (cells_in slots heads)) (all (as_due σ free) 0 (cells_in slots heads))
         (all (formed σ) 0 (cells_in slots heads)) (totals_used d σ)
         (all (counted_by σ (holders d σ)) 0 (cells_in slots heads)) (all (counted d σ) 0 (cells_in slots heads))
@@ -159,11 +161,11 @@ module _ (slots : List ℤ) (heads : List ℕ) where
     pub list_open : (end ≡ cells_in slots heads → ⊥) → false ≡ sound_words d slots heads
     list_open f = sym (sound_is ∙ rw (ne_eqb end (cells_in slots heads) f) refl)
 
-    pub totals_fail : used_from (store_of slots heads) d slots 0 1 ≡ false → false ≡ sound_words d slots heads
+    pub totals_fail : elements_used (store_of slots heads) d (take 1 slots) (length (take 1 slots)) ≡ false → false ≡ sound_words d slots heads
     totals_fail f = sym (sound_is ∙ no_second (eqb end (cells_in slots heads)) _
         (ap (λ t. t && all (fits σ met counts) 0 (cells_in slots heads)) f))
 
-    pub cells_decide : {r : Bool} → end ≡ cells_in slots heads → used_from (store_of slots heads) d slots 0 1 ≡ true →
+    pub cells_decide : {r : Bool} → end ≡ cells_in slots heads → elements_used (store_of slots heads) d (take 1 slots) (length (take 1 slots)) ≡ true →
         r ≡ all (fits (store_of slots heads) met counts) 0 (cells_in slots heads) → r ≡ sound_words d slots heads
     cells_decide e t a = a ∙ sym (sound_is
         ∙ ap₂ (λ (b c : Bool). b && (c && all (fits σ met counts) 0 (cells_in slots heads)))

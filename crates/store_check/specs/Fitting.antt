@@ -1,8 +1,7 @@
 -- How the test of a store compares a cell with what was gathered.
-use Rattle.std.specs.Prelude.{ℕ, zero, suc, ◌+◌, ◌≡◌, Bool, true, ◌&&◌, List, ℤ, pos, eqb, leb, get_or}
-use Rattle.semantics.specs.Basics.{all}
+use Rattle.std.specs.Prelude.{ℕ, zero, suc, ◌≡◌, Bool, ◌&&◌, List, eqb, leb, get_or}
 use Rattle.semantics.specs.Store.{Cell, Store, cell}
-use Rattle.semantics.specs.Sound.{zeros_from, names_used, elements_used}
+use Rattle.semantics.specs.Sound.{zeros_from, elements_used}
 use Rattle.store_check.specs.declared.Head.{Head}
 
 -- the head of a cell
@@ -17,11 +16,6 @@ unfoldable pub head_fits : ℕ → ℕ → ℕ → ℕ → ℕ → ℕ → Bool
 head_fits zero size depth next met holders = eqb size 0 && (eqb depth 0 && eqb met 1)
 head_fits (suc n) size depth next met holders =
     leb size 16 && (leb depth 3 && (eqb next 0 && (eqb met 0 && eqb (suc n) holders)))
-
--- n words from one on, by their depth: they name cells in use, of the depth below
-abbrev pub used_from : Store → ℕ → List ℤ → ℕ → ℕ → Bool
-used_from σ zero slots from n = true
-used_from σ (suc d) slots from n = all (λ i. names_used σ d (get_or slots (from + i) (pos 0))) 0 n
 
 -- a cell with its head and its slots
 unfoldable pub cell_fits : Store → ℕ → ℕ → ℕ → Bool

@@ -1,7 +1,7 @@
 -- What the test of a store gathers: how many places name each cell, its holders.
-use Rattle.std.specs.Prelude.{ℕ, zero, suc, ◌+◌, ◌<◌, ◌≡◌, List, [], ◌∷◌, ◌++◌, ℤ, pos, get_or, set}
-use Rattle.semantics.specs.Basics.{each, occurrences, tabulate}
-use Rattle.semantics.specs.Store.{Cell, Store, cell_count, cell_of, inner, named_by, one_more}
+use Rattle.std.specs.Prelude.{ℕ, zero, suc, ◌<◌, ◌≡◌, List, [], ◌∷◌, ◌++◌, get_or, set}
+use Rattle.semantics.specs.Basics.{each, occurrences}
+use Rattle.semantics.specs.Store.{Cell, Store, cell_count, inner, named_by, one_more}
 
 -- ---- holders
 
@@ -38,8 +38,3 @@ tally_one c counts = set counts c (one_more (get_or counts c 0))
 -- one more for each cell of a list
 abbrev pub tally : List ℕ → List ℕ → List ℕ
 tally l counts = each tally_one l counts
-
--- the cells that n words from one on name, by their depth
-abbrev pub named_from : ℕ → List ℤ → ℕ → ℕ → List ℕ
-named_from zero slots from n = []
-named_from (suc d) slots from n = tabulate 0 n (λ i. cell_of (get_or slots (from + i) (pos 0)))

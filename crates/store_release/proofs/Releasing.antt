@@ -1,6 +1,6 @@
 -- Laws of a release, one for each way out of the code, of freeing a cell, and of the loop over its elements.
 use Rattle.prelude.specs.Kit.{ℕ, ◌≤◌, ◌+◌, ◌<◌, ◌-◌, suc, zero, ◌*◌, min, arith, ◌≡◌, refl, ◌∙◌, sym, ap, List, [], map}
-use Rattle.prelude.specs.Kit.{ℤ, pos, length, get_or, set, take, length-take, length-map, get_or-map, get_or-take}
+use Rattle.prelude.specs.Kit.{ℤ, pos, length, get_or, set, take, length-map, get_or-map}
 use Rattle.semantics.specs.Basics.{each}
 use Rattle.semantics.specs.Store.{Cell, Store, cell, cell_of, clear, inner, with_cell, with_count}
 use Rattle.semantics.specs.Store.{freed, released, cells_taken}
@@ -78,43 +78,32 @@ freed_store w h = cleared_store w h
 
 -- ---- the elements of a freed cell, first to last
 
--- i of k are released, and n cells are freed with the one that held them
-pub record Releasing (levels : ℕ) (words : List ℤ) (k : ℕ) (σ₀ : Store) (n i : ℕ) (σ : Store) : Type 0 where
-  pub long : length words ≡ 16
-  pub few : k ≤ 16
-  pub doing : Doing (released levels) (map cell_of (take k words)) σ₀ i σ
+-- i of the words are released, and n cells are freed with the one that held them
+pub record Releasing (levels : ℕ) (words : List ℤ) (σ₀ : Store) (n i : ℕ) (σ : Store) : Type 0 where
+  pub doing : Doing (released levels) (map cell_of words) σ₀ i σ
   pub counted : n + cells_taken σ ≡ suc (cells_taken σ₀)
   pub taken : cells_taken σ₀ ≤ 256
 
-pub releasing_none : (levels : ℕ) (words : List ℤ) (k : ℕ) (slots : List ℤ) (heads : List ℕ) →
-    length words ≡ 16 → k ≤ 16 → Releasing levels words k (store_of slots heads) 1 0 (store_of slots heads)
-releasing_none levels words k slots heads h l = record {
-  long = h;
-  few = l;
-  doing = doing_none (released levels) (map cell_of (take k words)) (store_of slots heads);
+pub releasing_none : (levels : ℕ) (words : List ℤ) (slots : List ℤ) (heads : List ℕ) →
+    Releasing levels words (store_of slots heads) 1 0 (store_of slots heads)
+releasing_none levels words slots heads = record {
+  doing = doing_none (released levels) (map cell_of words) (store_of slots heads);
   counted = omega arith;
   taken = taken_few slots heads;
 }
 
-module _ {levels : ℕ} {words : List ℤ} {k : ℕ} {σ₀ : Store} {n i : ℕ} {σ : Store}
-    (r : Releasing levels words k σ₀ n i σ) where
-  names_length : length (map cell_of (take k words)) ≡ k
-  names_length = omega (arith, length-map (take k words) cell_of, length-take k words, r.long, r.few)
-
-  pub releasing_more : i < k → (c : ℕ) → c ≡ cell_of (get_or words i (pos 0)) → (σ' : Store) (m : ℕ) →
-      Releases levels c σ σ' m → Releasing levels words k σ₀ (n + m) (i + 1) σ'
+module _ {levels : ℕ} {words : List ℤ} {σ₀ : Store} {n i : ℕ} {σ : Store} (r : Releasing levels words σ₀ n i σ) where
+  pub releasing_more : i < length words → (c : ℕ) → c ≡ cell_of (get_or words i (pos 0)) → (σ' : Store) (m : ℕ) →
+      Releases levels c σ σ' m → Releasing levels words σ₀ (n + m) (i + 1) σ'
   releasing_more h c q σ' m s = record {
-    long = r.long;
-    few = r.few;
-    doing = doing_more r.doing (omega (arith, names_length)) (cell_of (pos 0)) c
-        (get_or-map cell_of (take k words) i (pos 0) ∙ ap cell_of (get_or-take k words i (pos 0) h) ∙ sym q)
-        s.store;
+    doing = doing_more r.doing (omega (arith, length-map words cell_of)) (cell_of (pos 0)) c
+        (get_or-map cell_of words i (pos 0) ∙ sym q) s.store;
     counted = omega (arith, r.counted, s.freed);
     taken = r.taken;
   }
 
-  releasing_all : i ≡ k → σ ≡ each (released levels) (map cell_of (take k words)) σ₀
-  releasing_all h = doing_all r.doing (h ∙ sym names_length)
+  releasing_all : i ≡ length words → σ ≡ each (released levels) (map cell_of words) σ₀
+  releasing_all h = doing_all r.doing (h ∙ sym (length-map words cell_of))
 
 -- ---- the last reference
 
@@ -149,8 +138,8 @@ module _ (slots : List ℤ) (heads : List ℕ) (levels c : ℕ) (p : 0 < levels)
       last_is [] (inner_flat (cell (store_of slots heads) c) (depth_is slots heads c h ∙ d)) e
       (omega (arith, ap cells_taken e))
 
-  pub released_all : {words : List ℤ} {k n i : ℕ} {σ₀ σ : Store} → (get_or heads (3 + 4 * c) 0 ≡ 0 → ⊥) →
-      words ≡ slots_at slots c → k ≡ min (get_or heads (2 + 4 * c) 0) 16 → σ₀ ≡ freed c (store_of slots heads) →
-      Releasing (levels - 1) words k σ₀ n i σ → i ≡ k → Releases levels c (store_of slots heads) σ n
-  released_all d w s f r e =
-      last_is _ (inner_are slots heads c h d) (rw (s, w, f) at (releasing_all r e)) (rw f at r.counted)
+  pub released_all : {words : List ℤ} {n i : ℕ} {σ₀ σ : Store} → (get_or heads (3 + 4 * c) 0 ≡ 0 → ⊥) →
+      words ≡ take (min (get_or heads (2 + 4 * c) 0) 16) (slots_at slots c) → σ₀ ≡ freed c (store_of slots heads) →
+      Releasing (levels - 1) words σ₀ n i σ → i ≡ length words → Releases levels c (store_of slots heads) σ n
+  released_all d w f r e =
+      last_is _ (inner_are slots heads c h d) (rw (w, f) at (releasing_all r e)) (rw f at r.counted)

@@ -5,25 +5,22 @@
 ghost use Rattle.std.specs.Prelude.{◌≡◌, ◌+◌, ◌*◌, ◌<◌, length};
 ghost use Rattle.semantics.specs.Store.{freed};
 ghost use Rattle.semantics.specs.Words.{slots_at, store_of};
+ghost use Rattle.store_words.specs.Parts.{HasSlots, HasWords};
 ghost use Rattle.store_release.specs.Releasing.{Releases};
 
 // The sixteen slots of a cell.
 fn slots_of(slots: &[i64], c: usize) -> [i64; 16]
-    requires { (c < 256) × (16 * c + 16 < length slots.now) }
+    requires { HasSlots slots.now c }
     ensures { result ≡ slots_at slots.now c }
 {
     let mut r = [0; 16];
-    let mut i: usize = 0;
-    while i < 16 {
-        r[i] = slots[1 + 16 * c + i];
-        i = i + 1;
-    }
+    r.copy_from_slice(&slots[1 + 16 * c..17 + 16 * c]);
     r
 }
 
 // Clears a cell and puts it at the head of the free list.
 fn free(slots: &mut [i64], heads: &mut [u32], c: usize)
-    requires { (c < 256) × (4 * c + 4 < length heads.old) × (16 * c + 16 < length slots.old) }
+    requires { HasWords slots.old heads.old c }
     ensures { store_of slots.new heads.new
         ≡ freed c (store_of slots.old heads.old) }
 {
@@ -40,10 +37,7 @@ pub fn release(slots: &mut [i64], heads: &mut [u32], c: usize, levels: u32) -> u
     ensures { Releases levels c (store_of slots.old heads.old)
         (store_of slots.new heads.new) result }
 {
-    if levels == 0 {
-        return 0;
-    }
-    if !store_words::is_cell(slots, heads, c) {
+    if levels == 0 || !store_words::is_cell(slots, heads, c) {
         return 0;
     }
     let n = heads[1 + 4 * c];
@@ -54,7 +48,7 @@ pub fn release(slots: &mut [i64], heads: &mut [u32], c: usize, levels: u32) -> u
         heads[1 + 4 * c] = n - 1;
         return 0;
     }
-    let size = heads[2 + 4 * c];
+    let size = (heads[2 + 4 * c] as usize).min(16);
     let depth = heads[3 + 4 * c];
     if depth == 0 {
         free(slots, heads, c);
@@ -62,12 +56,9 @@ pub fn release(slots: &mut [i64], heads: &mut [u32], c: usize, levels: u32) -> u
     }
     let words = slots_of(slots, c);
     free(slots, heads, c);
-    let k = words::at_most(size as usize, 16);
     let mut freed: u32 = 1;
-    let mut i: usize = 0;
-    while i < k {
-        freed = freed + release(slots, heads, store_words::named_cell(words[i]), levels - 1);
-        i = i + 1;
+    for &word in &words[..size] {
+        freed += release(slots, heads, store_words::named_cell(word), levels - 1);
     }
     freed
 }

@@ -4,40 +4,21 @@
 ghost use Rattle.std.specs.Prelude.{◌≡◌, ◌+◌, ◌*◌, ◌<◌, ◌≤◌, pos, length, get_or};
 ghost use Rattle.semantics.specs.Store.{cell, with_cell, relinked, zeroed, opened};
 ghost use Rattle.semantics.specs.Words.{cells_in, store_of};
+ghost use Rattle.store_words.specs.Parts.{HasWords};
 ghost use Rattle.store_reset.specs.Resetting.{words_of, cell_linked, head_linked};
 
-// Copies words as far as they go, then zeros.
-fn copy_slots(to: &mut [i64], from: &[i64])
-    ensures { to.new ≡ words_of (pos 0) (length to.old) from.now }
+// Copies items as far as they go, and then puts one that stands for none.
+fn copy_padded<T: Copy>(to: &mut [T], from: &[T], none: T)
+    ensures { to.new ≡ words_of none (length to.old) from.now }
 {
-    let mut i: usize = 0;
-    while i < to.len() {
-        to[i] = store_words::word_at(from, i);
-        i = i + 1;
-    }
-}
-
-// The number at a place, 0 past the end.
-fn number_at(numbers: &[u32], i: usize) -> u32
-    ensures { result ≡ get_or numbers.now i 0 }
-{
-    if i < numbers.len() { numbers[i] } else { 0 }
-}
-
-// Copies numbers as far as they go, then zeros.
-fn copy_heads(to: &mut [u32], from: &[u32])
-    ensures { to.new ≡ words_of 0 (length to.old) from.now }
-{
-    let mut k: usize = 0;
-    while k < to.len() {
-        to[k] = number_at(from, k);
-        k = k + 1;
+    for i in 0..to.len() {
+        to[i] = words::get_or(from, i, none);
     }
 }
 
 // A cell of count 0 is cleared and put before the free cell `head`; the first free cell from it on.
 fn relink_cell(slots: &mut [i64], heads: &mut [u32], c: usize, head: u32) -> u32
-    requires { (c < 256) × (4 * c + 4 < length heads.old) × (16 * c + 16 < length slots.old) }
+    requires { HasWords slots.old heads.old c }
     ensures { (result ≡ head_linked (get_or heads.old (1 + 4 * c) 0) c head)
         × (store_of slots.new heads.new
         ≡ with_cell (store_of slots.old heads.old) c
@@ -58,14 +39,12 @@ pub fn relink(slots: &mut [i64], heads: &mut [u32])
         ≡ relinked (store_of slots.old heads.old) }
 {
     let n = store_words::cells(slots, heads);
-    let mut c = n;
     let mut head = n as u32;
-    while 0 < c {
-        c = c - 1;
+    for c in (0..n).rev() {
         head = relink_cell(slots, heads, c, head);
     }
-    if 0 < heads.len() {
-        heads[0] = head;
+    if let Some(first) = heads.first_mut() {
+        *first = head;
     }
 }
 
@@ -74,10 +53,8 @@ pub fn zero_words(slots: &mut [i64], heads: &mut [u32])
     ensures { store_of slots.new heads.new
         ≡ zeroed (cells_in slots.old heads.old) }
 {
-    let no_words = [0; 1];
-    let no_numbers = [0; 1];
-    copy_slots(slots, &no_words[0..0]);
-    copy_heads(heads, &no_numbers[0..0]);
+    slots.fill(0);
+    heads.fill(0);
 }
 
 // Opens a store: all words zero, all cells free and linked upwards; for totals that are an array the first cell is
@@ -99,28 +76,12 @@ pub fn open_store(slots: &mut [i64], heads: &mut [u32], depth: u32)
     );
 }
 
-// Keeps the words of the first array for a stop, at the front of one that is no shorter.
-pub fn save_slots(saved: &mut [i64], slots: &[i64])
-    requires { length slots.now ≤ length saved.old }
-    ensures { words_of (pos 0) (length slots.now) saved.new ≡ slots.now }
+// Keeps the words of an array for a stop, at the front of one that is no shorter.
+pub fn save_words<T: Copy>(saved: &mut [T], words: &[T])
+    requires { length words.now ≤ length saved.old }
+    ensures { (none : T) → words_of none (length words.now) saved.new ≡ words.now }
 {
-    let mut i: usize = 0;
-    while i < slots.len() {
-        saved[i] = slots[i];
-        i = i + 1;
-    }
-}
-
-// The same of the second array.
-pub fn save_heads(saved: &mut [u32], heads: &[u32])
-    requires { length heads.now ≤ length saved.old }
-    ensures { words_of 0 (length heads.now) saved.new ≡ heads.now }
-{
-    let mut i: usize = 0;
-    while i < heads.len() {
-        saved[i] = heads[i];
-        i = i + 1;
-    }
+    saved[..words.len()].copy_from_slice(words);
 }
 
 // After a stop: the cells that were in use before it as they were, the others clear and linked upwards.
@@ -129,7 +90,7 @@ pub fn put_back(slots: &mut [i64], heads: &mut [u32], old_slots: &[i64], old_hea
         ≡ relinked (store_of (words_of (pos 0) (length slots.old) old_slots.now)
         (words_of 0 (length heads.old) old_heads.now)) }
 {
-    copy_slots(slots, old_slots);
-    copy_heads(heads, old_heads);
+    copy_padded(slots, old_slots, 0);
+    copy_padded(heads, old_heads, 0);
     relink(slots, heads);
 }

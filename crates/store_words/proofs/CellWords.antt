@@ -1,7 +1,7 @@
 -- What a cell of the store that two arrays hold has, word by word.
-use Rattle.prelude.specs.Kit.{ℕ, ◌≤◌, ◌+◌, ◌<◌, ◌*◌, min, arith, dec_lt, true, false, Bool, not, false≢true, true≢false}
+use Rattle.prelude.specs.Kit.{ℕ, ◌≤◌, ◌+◌, ◌<◌, ◌*◌, min, arith, dec_lt, true, false, Bool}
 use Rattle.prelude.specs.Kit.{◌≡◌, refl, ◌∙◌, sym, ap, ap₂, List, [], ℤ, pos, length, get_or, get_or-eq_default, take}
-use Rattle.prelude.specs.Kit.{length-take, get_or-take, set_out, set-get_or, not-true, not-false}
+use Rattle.prelude.specs.Kit.{length-take, get_or-take, set_out, set-get_or}
 use Rattle.semantics.specs.Store.{Cell, Store, cell, cell_count, clear, elements, with_cell}
 use Rattle.semantics.specs.Words.{cells_in, slots_at, cell_at, store_of}
 use Rattle.laws.specs.Cells.{same_store}
@@ -79,15 +79,6 @@ module _ (slots : List ℤ) (heads : List ℕ) where
 -- ---- a test whether a cell is there
 
 module _ {slots : List ℤ} {heads : List ℕ} {c : ℕ} where
-  -- what it says
-  pub says_there : c < cells_in slots heads → CellThere slots heads c true
-  says_there h =
-      let q = in_cells slots heads c h in
-      record { there = λ t. (h, q.0, q.1, q.2); gone = λ f. absurd (true≢false f) }
-
-  pub says_gone : cells_in slots heads ≤ c → CellThere slots heads c false
-  says_gone h = record { there = λ t. absurd (false≢true t); gone = λ f. h }
-
   -- what is known past `if !is_cell(..)`, and inside it
   pub told_there : {r : Bool} → CellThere slots heads c r → r ≡ true → InCells slots heads c
   told_there t e = t.there e

@@ -1,11 +1,10 @@
--- Counts: one more, the cells in use, and the test of the lengths.
-use Rattle.prelude.specs.Kit.{ℕ, ◌≤◌, ◌+◌, ◌<◌, suc, zero, ◌*◌, arith, add-one, false, ◌≡◌, refl, ◌∙◌, sym, ap, List}
-use Rattle.prelude.specs.Kit.{eqb, ℤ, length, get_or, drop, drop-cons, drop-length, ne_eqb, lt-ltb, eq-eqb, le-ltb}
+-- Counts: one more, and the cells in use.
+use Rattle.prelude.specs.Kit.{min, dec_lt, ℕ, ◌≤◌, ◌+◌, ◌<◌, suc, zero, ◌*◌, arith, add-one, ◌≡◌, refl, ◌∙◌, sym, ap, List}
+use Rattle.prelude.specs.Kit.{ℤ, get_or, drop, drop-cons, drop-length, lt-ltb, le-ltb}
 use Rattle.semantics.specs.Store.{Cell, Store, cell, cell_count, clear, one_more, one_if_used}
 use Rattle.semantics.specs.Store.{used_cells, cells_taken}
-use Rattle.semantics.specs.Words.{cells_in, store_of, shaped}
+use Rattle.semantics.specs.Words.{cells_in, store_of}
 use Rattle.laws.specs.Levels.{one_at_most, used_few}
-use Rattle.store_words.specs.Parts.{Holds}
 use Rattle.store_words.proofs.CellWords.{store_size, count_is}
 
 -- ---- one more
@@ -22,13 +21,20 @@ pub more_full : (n : ℕ) → most ≤ n → one_more n ≡ n
 unfolding one_more
 more_full n h = rw (le-ltb n most h)
 
+-- a full count stays
+pub saturates : (n : ℕ) → n ≤ most → min (n + 1) most ≡ one_more n
+saturates n b = elim (dec_lt n most) [
+  | yes h ↦ rw (more_small n h) (omega (arith, h))
+  | no h ↦ rw (more_full n (omega (arith, h))) (omega (arith, h))
+]
+
 -- ---- cells in use
 
-pub used_none : (n : ℕ) → n ≡ 0 → 0 ≡ one_if_used n
+pub used_none : (n : ℕ) → n ≡ 0 → one_if_used n ≡ 0
 used_none zero e = refl
 used_none (suc n) e = absurd (omega arith)
 
-pub used_some : (n : ℕ) → (n ≡ 0 → ⊥) → 1 ≡ one_if_used n
+pub used_some : (n : ℕ) → (n ≡ 0 → ⊥) → one_if_used n ≡ 1
 used_some zero f = absurd (f refl)
 used_some (suc n) f = refl
 
@@ -53,10 +59,10 @@ module _ (slots : List ℤ) (heads : List ℕ) {i k : ℕ} (t : Counting (store_
   abbrev all_cells : List Cell
   all_cells = (store_of slots heads).cells
 
-  pub counting_more : i < cells_in slots heads → (u : ℕ) → u ≡ one_if_used (get_or heads (1 + 4 * i) 0) →
-      Counting (store_of slots heads) (i + 1) (k + u)
+  pub counting_more : i < cells_in slots heads → (k' : ℕ) → k' ≡ k + one_if_used (get_or heads (1 + 4 * i) 0) →
+      Counting (store_of slots heads) (i + 1) k'
   unfolding used_cells cell
-  counting_more h u e = record {
+  counting_more h k' e = record {
     same = omega (arith, t.same, one, next, e, ap one_if_used (count_is slots heads i h));
     few = omega (arith, t.few, e, one_at_most (get_or heads (1 + 4 * i) 0));
   }
@@ -76,18 +82,3 @@ module _ (slots : List ℤ) (heads : List ℕ) {i k : ℕ} (t : Counting (store_
     ap used_cells
         (ap (λ (n : ℕ). drop n all_cells) (e ∙ sym (store_size slots heads)) ∙ drop-length all_cells),
   )
-
--- ---- lengths
-
-module _ (slots : List ℤ) (heads : List ℕ) (n : ℕ) (k : Holds slots heads n) where
-  pub none_fit : n ≡ 0 → false ≡ shaped slots heads
-  unfolding shaped
-  none_fit e = sym (rw (← k.is, e) refl)
-
-  pub slots_unfit : (n ≡ 0 → ⊥) → (length slots ≡ 1 + 16 * n → ⊥) → false ≡ shaped slots heads
-  unfolding shaped
-  slots_unfit e f = sym (rw (← k.is, lt-ltb 0 n (omega (arith, e)), ne_eqb (length slots) (1 + 16 * n) f) refl)
-
-  pub heads_fit : (n ≡ 0 → ⊥) → length slots ≡ 1 + 16 * n → eqb (length heads) (1 + 4 * n) ≡ shaped slots heads
-  unfolding shaped
-  heads_fit e f = sym (rw (← k.is, lt-ltb 0 n (omega (arith, e)), eq-eqb (length slots) (1 + 16 * n) f) refl)

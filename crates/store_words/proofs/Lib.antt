@@ -4,7 +4,7 @@ pub mod Each
 pub mod CellWords
 pub mod Naming
 pub mod Puts
-pub mod SlotLoops
+pub mod Slots
 pub mod Written
 pub mod Counting
 pub mod Spelling

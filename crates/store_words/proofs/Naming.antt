@@ -1,22 +1,10 @@
--- The cell that a word names, and the cells that a cell names.
-use Rattle.prelude.specs.Kit.{ℕ, ◌+◌, ◌<◌, suc, zero, ◌*◌, min, arith, true, false, true≢false, ◌≡◌, refl, ◌∙◌, sym, ap}
-use Rattle.prelude.specs.Kit.{List, [], ◌∷◌, map, ℤ, pos, negsuc, nat_abs, lt_z, length, get_or, take, ltb-true}
+-- The cells that a cell names.
+use Rattle.prelude.specs.Kit.{ℕ, ◌+◌, ◌<◌, suc, zero, ◌*◌, min, arith, ◌≡◌, refl, ◌∙◌, sym, ap}
+use Rattle.prelude.specs.Kit.{List, [], ◌∷◌, map, ℤ, length, get_or, take}
 pub use Rattle.laws.specs.Numbers.{not_negative}
 use Rattle.semantics.specs.Store.{Cell, cell, cell_of, named_by, elements, inner}
 use Rattle.semantics.specs.Words.{cells_in, slots_at, store_of}
 use Rattle.store_words.proofs.CellWords.{depth_is, elements_are, slots_length}
-
--- ---- a word as a cell's number
-
-pub cell_not_negative : (z : ℤ) → lt_z z (pos 0) ≡ false → nat_abs z ≡ cell_of z
-unfolding cell_of
-cell_not_negative (pos n) e = refl
-cell_not_negative (negsuc n) e = absurd (true≢false e)
-
-pub cell_negative : (z : ℤ) → lt_z z (pos 0) ≡ true → 256 ≡ cell_of z
-unfolding cell_of
-cell_negative (pos n) e = let f = ltb-true n 0 e in absurd (omega arith)
-cell_negative (negsuc n) e = refl
 
 -- ---- what a cell names
 

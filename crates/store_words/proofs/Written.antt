@@ -7,7 +7,7 @@ use Rattle.laws.specs.Cells.{same_cell}
 use Rattle.store_words.specs.Parts.{Cleared, with_head}
 use Rattle.store_words.proofs.CellWords.{in_cells}
 use Rattle.store_words.proofs.Puts.{Put, put_store}
-use Rattle.store_words.proofs.SlotLoops.{cleared_slots, cleared_others}
+use Rattle.store_words.proofs.Slots.{cleared_slots, cleared_others}
 
 -- ---- the four numbers of a head
 

@@ -9,10 +9,19 @@ pub record Holds (slots : List ℤ) (heads : List ℕ) (n : ℕ) : Type 0 where
   pub in_slots : 16 * n ≤ length slots - 1
   pub most : n ≤ 256
 
+-- c can be a cell's number, and the arrays have its head, its slots, or all its words
+abbrev pub HasHead : List ℕ → ℕ → Type 0
+HasHead heads c = (c < 256) × (4 * c + 4 < length heads)
+
+abbrev pub HasSlots : List ℤ → ℕ → Type 0
+HasSlots slots c = (c < 256) × (16 * c + 16 < length slots)
+
+abbrev pub HasWords : List ℤ → List ℕ → ℕ → Type 0
+HasWords slots heads c = (c < 256) × (4 * c + 4 < length heads) × (16 * c + 16 < length slots)
+
 -- cell c is there, with all its words
 abbrev pub InCells : List ℤ → List ℕ → ℕ → Type 0
-InCells slots heads c = (c < cells_in slots heads) × (c < 256) × (4 * c + 4 < length heads)
-    × (16 * c + 16 < length slots)
+InCells slots heads c = (c < cells_in slots heads) × HasWords slots heads c
 
 -- the answer says whether cell c is there
 pub record CellThere (slots : List ℤ) (heads : List ℕ) (c : ℕ) (r : Bool) : Type 0 where

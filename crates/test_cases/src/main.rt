@@ -1,6 +1,7 @@
-#![tactic(auto)]
 // Runs the cases of data/, the base's and those of orders 1 to 10, on the eight calls, and prints how many calls they
 // make and how much of what each leaves is right. Then it prints the refusal of a file for each number from 1 to 9.
+#![tactic(auto)]
+
 mod calls;
 mod checks;
 mod codes;
@@ -11,7 +12,7 @@ mod translations;
 
 use std::io;
 use std::rt::Files;
-use test_text::{TALLY_WORDS, Tally};
+use test_text::Tally;
 
 // What the cases of a text are about. Those of `EarlierDeliver` were written before an answer to a delivery had its
 // lowest level, and hold for all but its bits 8 to 23.
@@ -25,11 +26,46 @@ enum Family {
     Code,
 }
 
+// The files of data/, each with what its cases are about.
+const FILES: [(Family, &str); 31] = [
+    (Family::Translate, "translate.txt"),
+    (Family::Translate, "translate_1.txt"),
+    (Family::Translate, "translate_2.txt"),
+    (Family::Translate, "translate_3.txt"),
+    (Family::Translate, "translate_4.txt"),
+    (Family::Translate, "translate_5.txt"),
+    (Family::Translate, "translate_6.txt"),
+    (Family::Translate, "translate_7.txt"),
+    (Family::Translate, "translate_8.txt"),
+    (Family::Translate, "translate_10.txt"),
+    (Family::Check, "check.txt"),
+    (Family::Check, "check_1.txt"),
+    (Family::Check, "check_2.txt"),
+    (Family::Check, "check_3.txt"),
+    (Family::Check, "check_4.txt"),
+    (Family::Check, "check_5.txt"),
+    (Family::Check, "check_6.txt"),
+    (Family::Check, "check_7.txt"),
+    (Family::Check, "check_8.txt"),
+    (Family::Check, "check_10.txt"),
+    (Family::EarlierDeliver, "deliver.txt"),
+    (Family::EarlierDeliver, "deliver_1.txt"),
+    (Family::Deliver, "deliver_2.txt"),
+    (Family::Deliver, "deliver_3.txt"),
+    (Family::Deliver, "deliver_4.txt"),
+    (Family::Deliver, "deliver_5.txt"),
+    (Family::Deliver, "deliver_6.txt"),
+    (Family::Deliver, "deliver_7.txt"),
+    (Family::Deliver, "deliver_8.txt"),
+    (Family::Swap, "swap_4.txt"),
+    (Family::Code, "code_10.txt"),
+];
+
 // Runs a case.
 fn run_case(family: Family, case: &[u8], tally: &mut Tally) {
     let mut bytes = [0u8; 9220];
     let count = test_text::file_of(case, &mut bytes);
-    let file = &bytes[0..count];
+    let file = &bytes[..count];
     match family {
         Family::Translate => translations::run_case(case, file, tally),
         Family::Check => checks::run_case(case, file, tally),
@@ -42,6 +78,7 @@ fn run_case(family: Family, case: &[u8], tally: &mut Tally) {
 
 // Runs each case of a text.
 fn run_text(family: Family, text: &[u8], tally: &mut Tally) {
+    // (a `while`: the place moves by a case)
     let mut at = 0;
     while at < text.len() {
         let end = test_text::case_end(text, at);
@@ -54,43 +91,15 @@ fn run_text(family: Family, text: &[u8], tally: &mut Tally) {
 fn run_file<R: Files>(rt: &R, family: Family, name: &str, tally: &mut Tally) -> io::Result<()> {
     let mut text = [0u8; 200000];
     let count = test_text::read_text(rt, name, &mut text)?;
-    run_text(family, &text[0..count], tally);
+    run_text(family, &text[..count], tally);
     Ok(())
 }
 
 fn main(rt: HostRuntime) -> io::Result<()> {
-    let mut tally = [0u64; TALLY_WORDS];
-    run_file(&rt, Family::Translate, "translate.txt", &mut tally)?;
-    run_file(&rt, Family::Translate, "translate_1.txt", &mut tally)?;
-    run_file(&rt, Family::Translate, "translate_2.txt", &mut tally)?;
-    run_file(&rt, Family::Translate, "translate_3.txt", &mut tally)?;
-    run_file(&rt, Family::Translate, "translate_4.txt", &mut tally)?;
-    run_file(&rt, Family::Translate, "translate_5.txt", &mut tally)?;
-    run_file(&rt, Family::Translate, "translate_6.txt", &mut tally)?;
-    run_file(&rt, Family::Translate, "translate_7.txt", &mut tally)?;
-    run_file(&rt, Family::Translate, "translate_8.txt", &mut tally)?;
-    run_file(&rt, Family::Translate, "translate_10.txt", &mut tally)?;
-    run_file(&rt, Family::Check, "check.txt", &mut tally)?;
-    run_file(&rt, Family::Check, "check_1.txt", &mut tally)?;
-    run_file(&rt, Family::Check, "check_2.txt", &mut tally)?;
-    run_file(&rt, Family::Check, "check_3.txt", &mut tally)?;
-    run_file(&rt, Family::Check, "check_4.txt", &mut tally)?;
-    run_file(&rt, Family::Check, "check_5.txt", &mut tally)?;
-    run_file(&rt, Family::Check, "check_6.txt", &mut tally)?;
-    run_file(&rt, Family::Check, "check_7.txt", &mut tally)?;
-    run_file(&rt, Family::Check, "check_8.txt", &mut tally)?;
-    run_file(&rt, Family::Check, "check_10.txt", &mut tally)?;
-    run_file(&rt, Family::EarlierDeliver, "deliver.txt", &mut tally)?;
-    run_file(&rt, Family::EarlierDeliver, "deliver_1.txt", &mut tally)?;
-    run_file(&rt, Family::Deliver, "deliver_2.txt", &mut tally)?;
-    run_file(&rt, Family::Deliver, "deliver_3.txt", &mut tally)?;
-    run_file(&rt, Family::Deliver, "deliver_4.txt", &mut tally)?;
-    run_file(&rt, Family::Deliver, "deliver_5.txt", &mut tally)?;
-    run_file(&rt, Family::Deliver, "deliver_6.txt", &mut tally)?;
-    run_file(&rt, Family::Deliver, "deliver_7.txt", &mut tally)?;
-    run_file(&rt, Family::Deliver, "deliver_8.txt", &mut tally)?;
-    run_file(&rt, Family::Swap, "swap_4.txt", &mut tally)?;
-    run_file(&rt, Family::Code, "code_10.txt", &mut tally)?;
-    test_text::print_tally(&rt, &tally)?;
+    let mut tally = Tally::new();
+    for (family, name) in FILES {
+        run_file(&rt, family, name, &mut tally)?;
+    }
+    print!(rt; "{tally}")?;
     refusals::print_refusals(&rt)
 }

@@ -2,6 +2,19 @@
 use std::io;
 use std::rt::Files;
 
+// The files, by the names of their refusals.
+const NAMES: [&str; 9] = [
+    "truncated",
+    "size_out_of_range",
+    "malformed",
+    "operand_out_of_range",
+    "too_deep",
+    "unknown_name",
+    "type_mismatch",
+    "too_many_names",
+    "code_too_long",
+];
+
 // Prints what translating the file of this name gives.
 fn print_file<R: Files + Print>(rt: &R, name: &str) -> io::Result<()> {
     let mut buffer = [0u8; 65536];
@@ -16,13 +29,8 @@ fn print_file<R: Files + Print>(rt: &R, name: &str) -> io::Result<()> {
 // Prints what translating each file gives.
 pub fn print_refusals<R: Files + Print>(rt: &R) -> io::Result<()> {
     println!(rt; "printed")?;
-    print_file(rt, "truncated")?;
-    print_file(rt, "size_out_of_range")?;
-    print_file(rt, "malformed")?;
-    print_file(rt, "operand_out_of_range")?;
-    print_file(rt, "too_deep")?;
-    print_file(rt, "unknown_name")?;
-    print_file(rt, "type_mismatch")?;
-    print_file(rt, "too_many_names")?;
-    print_file(rt, "code_too_long")
+    for name in NAMES {
+        print_file(rt, name)?;
+    }
+    Ok(())
 }

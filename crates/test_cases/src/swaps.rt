@@ -3,106 +3,71 @@
 // refusal, a stop and a restore that ended with 25 with the words that it must have, and at the end with those of the
 // case. The store is checked after each opening, delivery and restore that left one.
 use super::{calls, deliveries};
-use test_text::{MOST_HEADS, MOST_SLOTS, Tally};
+use test_text::{Part, Store, Tally};
 
-// Makes the check or the save of a line, whose answer is this word.
+// Makes the check, the save or the restore of a line, whose answer is this word; the answer that is wanted.
 fn look(
-    call: usize,
+    call: Part,
     line: &[u8],
     answer: usize,
     file: &[u8],
-    slots: &mut [i64],
-    heads: &mut [u32],
+    store: &mut Store,
     tally: &mut Tally,
-) {
+) -> u64 {
     let wanted = test_text::natural(line, answer);
     let number = test_text::number_of(wanted);
-    let found = calls::run(call, line, file, slots, heads, number, tally);
-    test_text::count_call(tally, found == wanted);
+    let found = calls::run(call, line, file, store, number, tally);
+    tally.count_call(found == wanted);
+    wanted
 }
 
 // Makes the delivery of a line, and checks the store.
-fn deliver(line: &[u8], file: &[u8], slots: &mut [i64], heads: &mut [u32], tally: &mut Tally) {
-    deliveries::deliver(line, file, slots, heads, true, tally);
-    let cells = test_text::cells_after_delivery(line, heads);
-    deliveries::check(line, file, slots, heads, cells, tally);
+fn deliver(line: &[u8], file: &[u8], store: &mut Store, tally: &mut Tally) {
+    deliveries::deliver(line, file, store, true, tally);
+    let cells = store.taken_after(line);
+    deliveries::check(line, file, store, cells, tally);
 }
 
 // Makes the restore of a line, and checks the store that it opened.
-fn restore(line: &[u8], file: &[u8], slots: &mut [i64], heads: &mut [u32], tally: &mut Tally) {
-    let wanted = test_text::natural(line, 3);
-    look(test_text::RESTORE, line, 3, file, slots, heads, tally);
+fn restore(line: &[u8], file: &[u8], store: &mut Store, tally: &mut Tally) {
+    let wanted = look(Part::Restore, line, 3, file, store, tally);
     if test_text::number_of(wanted) == 0 {
-        deliveries::check(line, file, slots, heads, test_text::cells_of(wanted), tally);
+        deliveries::check(line, file, store, test_text::cells_of(wanted), tally);
     }
 }
 
 // Makes the call of a line, or puts words into the store.
-fn act(line: &[u8], file: &[u8], slots: &mut [i64], heads: &mut [u32], tally: &mut Tally) {
-    if test_text::stands_at(line, 0, b"put slots") {
-        test_text::fill_slots(line, 2, slots);
-    } else if test_text::stands_at(line, 0, b"put heads") {
-        test_text::fill_heads(line, 2, heads);
-    } else if test_text::stands_at(line, 0, b"open") {
-        deliveries::open(line, file, slots, heads, tally);
+fn act(line: &[u8], file: &[u8], store: &mut Store, tally: &mut Tally) {
+    if store.put(line) {
+        return;
+    }
+    if test_text::stands_at(line, 0, b"open") {
+        deliveries::open(line, file, store, tally);
     } else if test_text::stands_at(line, 0, b"check") {
-        look(test_text::CHECK, line, 3, file, slots, heads, tally);
+        look(Part::Check, line, 3, file, store, tally);
     } else if test_text::stands_at(line, 0, b"save") {
-        look(test_text::SAVE, line, 4, file, slots, heads, tally);
+        look(Part::Save, line, 4, file, store, tally);
     } else if test_text::stands_at(line, 0, b"deliver") {
-        deliver(line, file, slots, heads, tally);
+        deliver(line, file, store, tally);
     } else if test_text::stands_at(line, 0, b"restore") {
-        restore(line, file, slots, heads, tally);
+        restore(line, file, store, tally);
     }
 }
 
-// The same on the first words of two arrays: the store is so long.
-fn act_on(
-    line: &[u8],
-    file: &[u8],
-    slots: &mut [i64],
-    heads: &mut [u32],
-    slots_length: usize,
-    heads_length: usize,
-    tally: &mut Tally,
-) {
-    if slots.len() < slots_length {
-        return;
-    }
-    if heads.len() < heads_length {
-        return;
-    }
-    act(
-        line,
-        file,
-        &mut slots[0..slots_length],
-        &mut heads[0..heads_length],
-        tally,
-    );
-}
-
-// Runs a case on its file. A line `store` gives the lengths of the store from there on, all of whose words are zero.
+// Runs a case on its file. A line `store` gives another store from there on; one that is longer than the greatest is
+// none, and nothing is done on it.
 pub fn run_case(case: &[u8], file: &[u8], tally: &mut Tally) {
-    let mut slots = [0i64; MOST_SLOTS];
-    let mut heads = [0u32; MOST_HEADS];
-    let mut slots_length = 0;
-    let mut heads_length = 0;
-    let mut at = 0;
-    while at < case.len() {
-        let line = test_text::line_at(case, at);
-        test_text::begin_store(line, &mut slots, &mut heads);
-        slots_length = test_text::store_length_after(line, 1, slots_length);
-        heads_length = test_text::store_length_after(line, 2, heads_length);
-        act_on(
-            line,
-            file,
-            &mut slots,
-            &mut heads,
-            slots_length,
-            heads_length,
-            tally,
-        );
-        at = test_text::past(case, at, b'\n');
+    let mut store = Some(Store::filled(0, 0, 0, 0));
+    for line in case.split(|byte| *byte == b'\n') {
+        if test_text::stands_at(line, 0, b"store") {
+            store = Store::of_line(line);
+        }
+        if let Some(store) = &mut store {
+            act(line, file, store, tally);
+        }
     }
-    test_text::compare_last_within(case, &slots, &heads, slots_length, heads_length, tally);
+    if let Some(store) = &store {
+        tally.count_last();
+        tally.count_store(store.is_same(&store.at_end(case)), store.words());
+    }
 }

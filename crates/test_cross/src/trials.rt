@@ -1,121 +1,103 @@
 // Document 01's trials that its theorems leave: 16 and 17 readings with the printed script, and a call depth of 32 and
 // of 33. Each is one delivery to a fresh store.
-use super::both;
-use super::both::Given;
+use super::both::{Both, Given};
 use std::io;
-use test_draft::{DESK_WORDS, Desk, write};
-use test_ledger::{HEAD_WORDS, SLOT_WORDS};
-use test_values::memory::MEMORY_WORDS;
+use test_draft::Desk;
+use test_ledger::Store;
+use test_values::VALUE_WORDS;
+use test_values::kinds::Kind;
+use test_values::memory::Memory;
 use test_values::rows::FILE_BYTES;
-use test_values::{VALUE_WORDS, kinds, stops};
 
 // The cells of a trial's store.
 const CELLS: usize = 2;
 
-// The printed script: the first totals are the first reading, and later readings are added.
-fn write_printed(desk: &mut Desk) {
-    desk[test_draft::FUNCTIONS] = 1;
-    write(desk, kinds::FUNCTION, 0x102);
-    write(desk, kinds::PARAMETER, 0x100);
-    write(desk, kinds::PARAMETER, 0x101);
-    write(desk, kinds::IF, 0);
-    write(desk, kinds::LENGTH, 0);
-    write(desk, kinds::NAME, 0);
-    write(desk, kinds::LITERAL, 1);
-    write(desk, kinds::SUM, 0);
-    write(desk, kinds::INDEX, 0);
-    write(desk, kinds::NAME, 0);
-    write(desk, kinds::NUMBER, 0);
-    write_first(desk);
-    write(desk, kinds::LITERAL, 1);
-    write_first(desk);
-}
+// Printed in place of a number where the engine and the second interpreter differ. No answer has this number.
+const DIFFERS: u8 = 32;
 
-// The first reading.
-fn write_first(desk: &mut Desk) {
-    write(desk, kinds::INDEX, 0);
-    write(desk, kinds::NAME, 1);
-    write(desk, kinds::NUMBER, 0);
-}
+// The printed script: the first totals are the first reading, and later readings are added.
+const PRINTED: [(Kind, u64); 18] = [
+    (Kind::Function, 0x102),
+    (Kind::Parameter, 0x100),
+    (Kind::Parameter, 0x101),
+    (Kind::If, 0),
+    (Kind::Length, 0),
+    (Kind::Name, 0),
+    (Kind::Literal, 1),
+    (Kind::Sum, 0),
+    (Kind::Index, 0),
+    (Kind::Name, 0),
+    (Kind::Number, 0),
+    (Kind::Index, 0),
+    (Kind::Name, 1),
+    (Kind::Number, 0),
+    (Kind::Literal, 1),
+    (Kind::Index, 0),
+    (Kind::Name, 1),
+    (Kind::Number, 0),
+];
 
 // Main calls a function with the first reading n, which calls itself n times: f(n) = if 0 < n then f(n - 1) else 0.
-fn write_nested(desk: &mut Desk) {
-    desk[test_draft::FUNCTIONS] = 2;
-    write(desk, kinds::FUNCTION, 2);
-    write(desk, kinds::PARAMETER, 0);
-    write(desk, kinds::PARAMETER, 0x101);
-    write(desk, kinds::CALL, 0x101);
-    write_first(desk);
-    write(desk, kinds::FUNCTION, 1);
-    write(desk, kinds::PARAMETER, 0);
-    write(desk, kinds::IF, 0);
-    write(desk, kinds::LESS, 0);
-    write(desk, kinds::NUMBER, 0);
-    write(desk, kinds::NAME, 0);
-    write(desk, kinds::CALL, 0x101);
-    write(desk, kinds::DIFFERENCE, 0);
-    write(desk, kinds::NAME, 0);
-    write(desk, kinds::NUMBER, 1);
-    write(desk, kinds::NUMBER, 0);
-}
+const NESTED: [(Kind, u64); 18] = [
+    (Kind::Function, 2),
+    (Kind::Parameter, 0),
+    (Kind::Parameter, 0x101),
+    (Kind::Call, 0x101),
+    (Kind::Index, 0),
+    (Kind::Name, 1),
+    (Kind::Number, 0),
+    (Kind::Function, 1),
+    (Kind::Parameter, 0),
+    (Kind::If, 0),
+    (Kind::Less, 0),
+    (Kind::Number, 0),
+    (Kind::Name, 0),
+    (Kind::Call, 0x101),
+    (Kind::Difference, 0),
+    (Kind::Name, 0),
+    (Kind::Number, 1),
+    (Kind::Number, 0),
+];
 
-// A delivery of the first of these readings to a fresh store, in both; the number.
-fn number_of(
-    file: &[u8; FILE_BYTES],
-    end: usize,
-    readings: &[u64; VALUE_WORDS],
-    count: usize,
-) -> u64 {
-    let mut slots = [0i64; SLOT_WORDS];
-    let mut heads = [0u32; HEAD_WORDS];
-    let mut ledger = [0u64; MEMORY_WORDS];
-    if !both::open_both(file, &mut slots, &mut heads, &mut ledger, end, CELLS) {
-        return stops::DIFFERS;
+// A delivery of so many readings, all the same, to a fresh store of a script of these nodes; the number on which the
+// engine and the second interpreter agree.
+fn number_of(nodes: &[(Kind, u64)], functions: usize, reading: u64, count: usize) -> Option<u8> {
+    let mut desk = Desk::new(0);
+    desk.functions = functions;
+    for (kind, operand) in nodes {
+        desk.write(*kind, *operand);
     }
-    let given = Given {
-        end: end,
+    let mut file = [0u8; FILE_BYTES];
+    let end = test_draft::file::write_file(&desk, &mut file);
+    let mut store = Store::CLEAR;
+    let mut ledger = Memory::CLEAR;
+    ledger.read_script(&file);
+    let mut both = Both {
+        file: &file[..end],
         cells: CELLS,
-        count: count,
-        budget: test_ledger::MOST_STEPS,
+        store: &mut store,
+        ledger: &mut ledger,
     };
-    both::deliver_both(file, &mut slots, &mut heads, &mut ledger, readings, given)
+    if !both.open() {
+        return None;
+    }
+    both.deliver(&Given {
+        readings: [reading; VALUE_WORDS],
+        count,
+        budget: test_ledger::MOST_STEPS,
+    })
 }
 
 // Prints what a trial is, and its number in both.
-fn run_trial(
-    rt: &impl Print,
-    label: &str,
-    desk: &Desk,
-    readings: &[u64; VALUE_WORDS],
-    count: usize,
-) -> io::Result<()> {
-    let mut file = [0u8; FILE_BYTES];
-    let end = test_draft::file::write_file(desk, &mut file);
-    let number = number_of(&file, end, readings, count);
-    println!(rt; "{label}{number}")
+fn print_trial(rt: &impl Print, label: &str, number: Option<u8>) -> io::Result<()> {
+    let number = number.unwrap_or(DIFFERS);
+    println!(rt; "{label}: {number}")
 }
 
-// 16 and 17 readings.
-fn run_printed(rt: &impl Print) -> io::Result<()> {
-    let mut desk = [0u64; DESK_WORDS];
-    let readings = [7u64; VALUE_WORDS];
-    write_printed(&mut desk);
-    run_trial(rt, "16 readings: ", &desk, &readings, 16)?;
-    run_trial(rt, "17 readings: ", &desk, &readings, 17)
-}
-
-// Main is the first call, and the function with the reading n makes n + 1 more.
-fn run_nested(rt: &impl Print) -> io::Result<()> {
-    let mut desk = [0u64; DESK_WORDS];
-    let most = [30u64; VALUE_WORDS];
-    let over = [31u64; VALUE_WORDS];
-    write_nested(&mut desk);
-    run_trial(rt, "call depth 32: ", &desk, &most, 1)?;
-    run_trial(rt, "call depth 33: ", &desk, &over, 1)
-}
-
-// Runs all trials.
+// Runs all trials. Main is the first call, and the function with the reading n makes n + 1 more.
 pub fn run_trials(rt: &impl Print) -> io::Result<()> {
-    run_printed(rt)?;
-    run_nested(rt)
+    print_trial(rt, "16 readings", number_of(&PRINTED, 1, 7, 16))?;
+    print_trial(rt, "17 readings", number_of(&PRINTED, 1, 7, 17))?;
+    print_trial(rt, "call depth 32", number_of(&NESTED, 2, 30, 1))?;
+    print_trial(rt, "call depth 33", number_of(&NESTED, 2, 31, 1))
 }

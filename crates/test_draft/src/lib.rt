@@ -1,163 +1,177 @@
-// The draft of a script that is made from a seed. All of it stands in one array of words, the desk: the seed, what is
-// known of each name, the functions' signatures, an agenda of what is still to be written, and the nodes written so
-// far.
+// The draft of a script that is made from a seed, on a desk: the seed, what is known of each name, the functions'
+// signatures, an agenda of what is still to be written, and the nodes written so far.
 #![tactic(auto)]
 
 pub mod file;
 pub mod requests;
 
-ghost use Rattle.std.specs.Prelude.{◌<◌};
+ghost use Rattle.std.specs.Prelude.{◌<◌, ◌≤◌, length};
 
-// The words of a desk.
-pub const DESK_WORDS: usize = 4896;
+use test_values::kinds::Kind;
+use test_values::rows::MOST_NODES;
 
-pub type Desk = [u64; DESK_WORDS];
+// How many names, functions and parameters there are at the most, and how many items the agenda has room for.
+const NAMES: usize = 256;
 
-// Single words: the seed, the nodes written, the items on the agenda, the functions, the function that is written,
-// the nodes after which only leaves are written, and whether a spine came to its last level.
-const SEED: usize = 0;
+pub const MOST_FUNCTIONS: usize = 32;
 
-pub const NODES: usize = 1;
+pub const MOST_PARAMETERS: usize = 8;
 
-const ITEMS: usize = 2;
-
-pub const FUNCTIONS: usize = 3;
-
-pub const FUNCTION: usize = 4;
-
-pub const LIMIT: usize = 5;
-
-pub const LAST_LEVEL: usize = 6;
-
-// Regions: for each name 0 or its depth + 1; 16 words for each function; the agenda; two words for each node.
-const SCOPE: usize = 16;
-
-const SIGNATURES: usize = 272;
-
-const AGENDA: usize = 800;
-
-const DRAFT: usize = 2848;
-
-// How much the regions hold: names, functions, a signature's columns, items and nodes.
-const NAMES: u64 = 256;
-
-pub const MOST_FUNCTIONS: u64 = 32;
-
-const COLUMNS: u64 = 16;
-
-const MOST_ITEMS: u64 = 2048;
-
-pub const MOST_NODES: u64 = 1024;
-
-// The columns of a signature: how many parameters, the result's depth, whether the function calls itself, and
-// from the third on the parameters' depths.
-pub const COUNT: u64 = 0;
-
-pub const RESULT: u64 = 1;
-
-pub const RECURSIVE: u64 = 2;
-
-pub const FIRST_DEPTH: u64 = 3;
-
-// What an item of the agenda asks for: a part, another depth of a name, or a node that is fixed. Where there is no
-// item, nothing is asked for.
-pub const PART: u64 = 0;
-
-pub const BINDING: u64 = 1;
-
-pub const NODE: u64 = 2;
-
-pub const NOTHING: u64 = 3;
+const MOST_ITEMS: usize = 2048;
 
 // The sequence that a seed starts: each number is the last one times a factor, modulo a prime.
 const PRIME: u64 = 2147483647;
 
 const FACTOR: u64 = 48271;
 
-// The next number of the sequence, below n.
-pub fn choose(desk: &mut Desk, n: u64) -> u64
-    requires { 0 < n }
-    ensures { result < n }
-{
-    let seed = desk[SEED] % PRIME * FACTOR % PRIME;
-    desk[SEED] = seed;
-    seed / 8 % n
+// A node that is written.
+#[derive(Clone, Copy)]
+pub struct Node {
+    pub kind: Kind,
+    pub operand: u64,
 }
 
-// Starts the sequence from a seed; it would stay at 0, so it never starts there.
-pub fn plant(desk: &mut Desk, seed: u64) {
-    desk[SEED] = seed % (PRIME - 1) + 1;
+const NO_NODE: Node = Node {
+    kind: Kind::Other,
+    operand: 0,
+};
+
+// A function's signature: how many parameters it takes, the depth of what it gives, whether it calls itself, and the
+// depths of its parameters.
+#[derive(Clone, Copy)]
+pub struct Signature {
+    pub count: usize,
+    pub result: u8,
+    pub is_recursive: bool,
+    pub depths: [u8; MOST_PARAMETERS],
 }
 
-// Notes that a spine came to its last level, where it did.
-pub fn note_spine(desk: &mut Desk, spine: bool) {
-    if spine {
-        desk[LAST_LEVEL] = 1;
+pub const NO_SIGNATURE: Signature = Signature {
+    count: 0,
+    result: 0,
+    is_recursive: false,
+    depths: [0; MOST_PARAMETERS],
+};
+
+// How many levels a part has, its own among them. On a spine one part goes as deep as it may.
+#[derive(Clone, Copy)]
+pub struct Room {
+    pub levels: u64,
+    pub spine: bool,
+}
+
+// What an item of the agenda asks for: a part of a depth in some room, another depth of a name (or that it is not
+// known), or a node that is fixed.
+#[derive(Clone, Copy)]
+pub enum Item {
+    Part { depth: u8, room: Room },
+    Binding { name: u8, depth: Option<u8> },
+    Node(Node),
+}
+
+#[derive(Clone, Copy)]
+pub struct Desk {
+    seed: u64,
+    // The depths of names, where they are known.
+    known: [Option<u8>; NAMES],
+    pub signatures: [Signature; MOST_FUNCTIONS],
+    // How many functions there are, and the one that is written.
+    pub functions: usize,
+    pub function: usize,
+    // The node after which only leaves are written, and whether a spine came to its last level.
+    pub limit: usize,
+    pub reached_last_level: bool,
+    agenda: [Item; MOST_ITEMS],
+    items: usize,
+    nodes: [Node; MOST_NODES],
+    node_count: usize,
+}
+
+impl Desk {
+    // A desk on which the sequence starts from a seed; it would stay at 0, so it never starts there.
+    pub fn new(seed: u64) -> Self {
+        Desk {
+            seed: seed % (PRIME - 1) + 1,
+            known: [None; NAMES],
+            signatures: [NO_SIGNATURE; MOST_FUNCTIONS],
+            functions: 0,
+            function: 0,
+            limit: 0,
+            reached_last_level: false,
+            agenda: [Item::Node(NO_NODE); MOST_ITEMS],
+            items: 0,
+            nodes: [NO_NODE; MOST_NODES],
+            node_count: 0,
+        }
     }
-}
 
-// 0 for a name that is not known, and else its depth + 1.
-pub fn known(desk: &Desk, name: u64) -> u64 {
-    desk[SCOPE + (name % NAMES) as usize]
-}
-
-// Sets what is known of a name.
-pub fn set_known(desk: &mut Desk, name: u64, depth_and_one: u64) {
-    desk[SCOPE + (name % NAMES) as usize] = depth_and_one;
-}
-
-// Where a column of a function's signature stands.
-fn signature_place(function: u64, column: u64) -> usize
-    ensures { result < 784 }
-{
-    SIGNATURES + (function % MOST_FUNCTIONS * COLUMNS + column % COLUMNS) as usize
-}
-
-// A column of a function's signature.
-pub fn signature(desk: &Desk, function: u64, column: u64) -> u64 {
-    desk[signature_place(function, column)]
-}
-
-// Sets a column of a function's signature.
-pub fn set_signature(desk: &mut Desk, function: u64, column: u64, value: u64) {
-    desk[signature_place(function, column)] = value;
-}
-
-// Puts an item on top of the agenda.
-pub fn push(desk: &mut Desk, tag: u64, first: u64, second: u64) {
-    let items = desk[ITEMS];
-    if items < MOST_ITEMS {
-        desk[AGENDA + items as usize] = tag % 4 + 4 * (first % 4096 + 4096 * (second % 65536));
-        desk[ITEMS] = items + 1;
+    // The next number of the sequence, below n.
+    pub fn choose(&mut self, n: u64) -> u64
+        requires { 0 < n }
+        ensures { result < n }
+    {
+        self.seed = self.seed % PRIME * FACTOR % PRIME;
+        self.seed / 8 % n
     }
-}
 
-// Takes the agenda's top item.
-pub fn pop(desk: &mut Desk) -> u64 {
-    let items = desk[ITEMS];
-    if items == 0 {
-        return NOTHING;
+    // Whether the next number of the sequence, below n, is 0.
+    pub fn chance(&mut self, n: u64) -> bool
+        requires { 0 < n }
+    {
+        self.choose(n) == 0
     }
-    desk[ITEMS] = items - 1;
-    desk[AGENDA + ((items - 1) % MOST_ITEMS) as usize]
-}
 
-// Writes a node.
-pub fn write(desk: &mut Desk, kind: u64, operand: u64) {
-    let node = desk[NODES];
-    if node < MOST_NODES {
-        desk[DRAFT + 2 * node as usize] = kind;
-        desk[DRAFT + 2 * node as usize + 1] = operand;
-        desk[NODES] = node + 1;
+    // The depth of a name, if it is known.
+    pub fn known(&self, name: u8) -> Option<u8> {
+        self.known[usize::from(name)]
     }
-}
 
-// The kind of a node that is written.
-pub fn kind_at(desk: &Desk, node: u64) -> u64 {
-    desk[DRAFT + 2 * (node % MOST_NODES) as usize]
-}
+    // Sets what is known of a name.
+    pub fn set_known(&mut self, name: u8, depth: Option<u8>) {
+        self.known[usize::from(name)] = depth;
+    }
 
-// The operand of a node that is written.
-pub fn operand_at(desk: &Desk, node: u64) -> u64 {
-    desk[DRAFT + 2 * (node % MOST_NODES) as usize + 1]
+    // A function's signature.
+    pub fn signature(&self, function: usize) -> Signature {
+        self.signatures[function % MOST_FUNCTIONS]
+    }
+
+    // Puts an item on top of the agenda.
+    pub fn push(&mut self, item: Item) {
+        if self.items < MOST_ITEMS {
+            self.agenda[self.items] = item;
+            self.items += 1;
+        }
+    }
+
+    // Takes the agenda's top item, if there is one.
+    pub fn pop(&mut self) -> Option<Item> {
+        if self.items == 0 {
+            return None;
+        }
+        self.items -= 1;
+        Some(self.agenda[self.items % MOST_ITEMS])
+    }
+
+    // Writes a node.
+    pub fn write(&mut self, kind: Kind, operand: u64) {
+        if self.node_count < MOST_NODES {
+            self.nodes[self.node_count] = Node { kind, operand };
+            self.node_count += 1;
+        }
+    }
+
+    // How many nodes are written.
+    pub fn written(&self) -> usize
+        ensures { result ≤ 1024 }
+    {
+        self.node_count.min(MOST_NODES)
+    }
+
+    // The nodes that are written.
+    pub fn nodes(&self) -> &[Node]
+        ensures { length result.now ≤ 1024 }
+    {
+        &self.nodes[..self.written()]
+    }
 }

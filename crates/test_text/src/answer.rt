@@ -14,7 +14,7 @@ pub fn number_of(answer: u64) -> usize
 // Whether a number is a refusal: such a call leaves the store as it was, and its code arrays zero unless they are lent
 // code.
 pub fn is_refusal(number: usize) -> bool {
-    number == 27 || number == 29 || (0 < number && number < 12)
+    matches!(number, 1..=11 | 27 | 29)
 }
 
 // Whether an answer to a delivery is the one that is wanted, whole or but for its lowest level; a refusal has none.
@@ -22,10 +22,7 @@ pub fn is_wanted(answer: u64, wanted: u64, whole: bool) -> bool {
     if whole || is_refusal(number_of(wanted)) {
         return answer == wanted;
     }
-    if number_of(answer) != number_of(wanted) {
-        return false;
-    }
-    answer / 16777216 == wanted / 16777216
+    number_of(answer) == number_of(wanted) && answer / 16777216 == wanted / 16777216
 }
 
 // The cells taken as a call ends.
@@ -35,10 +32,7 @@ pub fn cells_of(answer: u64) -> u64 {
 
 // Whether an answer says nothing but done and so many cells taken.
 pub fn is_done_with(answer: u64, cells: u64) -> bool {
-    if answer % 281474976710656 != 0 {
-        return false;
-    }
-    cells_of(answer) == cells
+    answer % 281474976710656 == 0 && cells_of(answer) == cells
 }
 
 // The answer of a case.

@@ -1,99 +1,169 @@
-// The lent code of a case: its lines, put into two arrays, and compared with what a call leaves.
-ghost use Rattle.std.specs.Prelude.{◌≡◌, length};
+// Code arrays as a call is lent them: room for the longest, and how many lines of each are lent; and the code of a
+// case, with which they are compared after the call.
+ghost use Rattle.std.specs.Prelude.{◌≡◌, ◌≤◌, true, length, take};
 
-use crate::array::{put_kind, put_slot};
-use crate::compare::{MOST_LINES, same_code};
-use crate::number::{natural, signed};
-use crate::tally;
-use crate::tally::Tally;
-use crate::text::{byte_at, line_at, past, stands_at, start_of};
+use crate::answer::{is_refusal, number_of};
+use crate::array::put_row;
+use crate::number::{length_of, natural};
+use crate::text::{byte_at, line_at, line_of, past, stands_at, start_of};
 
-// A word of an array; 0 past the end.
-fn word_at(words: &[i64], at: usize) -> i64 {
-    if at < words.len() {
-        return words[at];
-    }
-    0
+// The most lines that the lent code arrays of a case have.
+pub const MOST_LINES: usize = 5000;
+
+#[derive(Clone, Copy)]
+pub struct Code {
+    pub kinds: [u8; MOST_LINES],
+    pub operands: [i64; MOST_LINES],
+    pub kind_count: usize,
+    pub operand_count: usize,
 }
 
-// Puts the last lines before a place behind them once more, as far as the arrays go. Answers the place after them.
-fn put_last(count: usize, from: usize, kinds: &mut [u8], operands: &mut [i64]) -> usize
-    ensures { (length kinds.new ≡ length kinds.old)
-        × (length operands.new ≡ length operands.old) }
-{
-    let mut at = from;
-    let mut left = count;
-    while 0 < left {
-        if kinds.len() <= at {
+impl Code {
+    // Code arrays of these words, of the lengths that a line gives as its words 1 and 2.
+    pub fn filled(kind: u8, operand: i64, line: &[u8]) -> Self {
+        Code {
+            kinds: [kind; MOST_LINES],
+            operands: [operand; MOST_LINES],
+            kind_count: length_of(line, 1, MOST_LINES),
+            operand_count: length_of(line, 2, MOST_LINES),
+        }
+    }
+
+    // The longest code arrays, all zero.
+    pub fn longest() -> Self {
+        Code {
+            kinds: [0; MOST_LINES],
+            operands: [0; MOST_LINES],
+            kind_count: MOST_LINES,
+            operand_count: MOST_LINES,
+        }
+    }
+
+    // The code lines of a case, which a translation gives.
+    pub fn of_case(case: &[u8]) -> Self {
+        let mut code = Code::longest();
+        let start = start_of(case, b"rows");
+        let lines = natural(line_at(case, start), 1) as usize;
+        let mut at = past(case, start, b'\n');
+        for i in 0..lines {
+            put_row(line_at(case, at), i, &mut code.kinds, &mut code.operands);
+            at = past(case, at, b'\n');
+        }
+        code
+    }
+
+    // The code that a case lends, of the lengths that its line `arrays` gives: its lines up to the first check.
+    pub fn lent(case: &[u8]) -> Self {
+        let mut code = Code::filled(0, 0, line_of(case, b"arrays"));
+        let rows = past(case, start_of(case, b"rows"), b'\n');
+        let mut at = 0;
+        for line in case[rows..].split(|byte| *byte == b'\n') {
+            if stands_at(line, 0, b"check") {
+                return code;
+            }
+            at = code.put_line(line, at);
+        }
+        code
+    }
+
+    // Puts the last lines before a place behind them once more, as far as the arrays go. Answers the place after them.
+    fn put_last(&mut self, count: usize, from: usize) -> usize {
+        let mut at = from;
+        for _ in 0..count {
+            if MOST_LINES <= at || at < count {
+                return at;
+            }
+            let row = at - count;
+            self.kinds[at] = self.kinds[row];
+            self.operands[at] = self.operands[row];
+            at += 1;
+        }
+        at
+    }
+
+    // Puts what a line of a case gives at a place: a code line, or for a line `again N M` the last M, N times more.
+    // Answers the place after it.
+    fn put_line(&mut self, line: &[u8], from: usize) -> usize {
+        if stands_at(line, 0, b"again") {
+            let count = natural(line, 2) as usize;
+            let mut at = from;
+            for _ in 0..natural(line, 1) {
+                at = self.put_last(count, at);
+            }
             return at;
         }
-        if at < count {
-            return at;
+        if MOST_LINES <= from {
+            return from;
         }
-        put_kind(kinds, at, byte_at(kinds, at - count) as u64);
-        put_slot(operands, at, word_at(operands, at - count));
-        at = at + 1;
-        left = left - 1;
+        put_row(line, from, &mut self.kinds, &mut self.operands);
+        from + 1
     }
-    at
-}
 
-// Puts the lines of a line `again N M` at a place: the last M, N times more. Answers the place after them.
-fn put_again(line: &[u8], from: usize, kinds: &mut [u8], operands: &mut [i64]) -> usize
-    ensures { (length kinds.new ≡ length kinds.old)
-        × (length operands.new ≡ length operands.old) }
-{
-    let count = natural(line, 2) as usize;
-    let mut at = from;
-    let mut left = natural(line, 1);
-    while 0 < left {
-        at = put_last(count, at, kinds, operands);
-        left = left - 1;
+    // The first lines of its first array.
+    fn first_kinds(&self, count: usize) -> &[u8]
+        ensures { result.now ≡ take count self.now.kinds }
+    {
+        &self.kinds[..count.min(MOST_LINES)]
     }
-    at
-}
 
-// Puts what a line of a case gives at a place of the code. Answers the place after it.
-fn put_line(line: &[u8], at: usize, kinds: &mut [u8], operands: &mut [i64]) -> usize
-    ensures { (length kinds.new ≡ length kinds.old)
-        × (length operands.new ≡ length operands.old) }
-{
-    if stands_at(line, 0, b"again") {
-        return put_again(line, at, kinds, operands);
+    // The first lines of its second array.
+    fn first_operands(&self, count: usize) -> &[i64]
+        ensures { result.now ≡ take count self.now.operands }
+    {
+        &self.operands[..count.min(MOST_LINES)]
     }
-    if kinds.len() <= at {
-        return at;
-    }
-    put_kind(kinds, at, natural(line, 0));
-    put_slot(operands, at, signed(line, 1));
-    at + 1
-}
 
-// Puts the lent code of a case into two arrays: its lines up to the first check.
-pub fn fill_code(case: &[u8], kinds: &mut [u8], operands: &mut [i64])
-    ensures { (length kinds.new ≡ length kinds.old)
-        × (length operands.new ≡ length operands.old) }
-{
-    let mut start = past(case, start_of(case, b"rows"), b'\n');
-    let mut at = 0;
-    while start < case.len() {
-        let line = line_at(case, start);
-        if stands_at(line, 0, b"check") {
-            return;
+    // The first array as it is lent.
+    pub fn kinds(&self) -> &[u8]
+        ensures { result.now ≡ take self.now.kind_count self.now.kinds }
+    {
+        self.first_kinds(self.kind_count)
+    }
+
+    // The second array as it is lent.
+    pub fn operands(&self) -> &[i64]
+        ensures { result.now ≡ take self.now.operand_count self.now.operands }
+    {
+        self.first_operands(self.operand_count)
+    }
+
+    // Lends a call both arrays to write; its answer.
+    pub fn lend<F: FnOnce(&mut [u8], &mut [i64]) -> u64>(&mut self, call: F) -> u64
+        requires { F.IsAlwaysCallable call }
+    {
+        // (copied and put back: two parts of what lies behind one reference cannot be lent at once)
+        let mut kinds = self.kinds;
+        let mut operands = self.operands;
+        let kind_count = self.kind_count.min(MOST_LINES);
+        let operand_count = self.operand_count.min(MOST_LINES);
+        let answer = call(&mut kinds[..kind_count], &mut operands[..operand_count]);
+        self.kinds = kinds;
+        self.operands = operands;
+        answer
+    }
+
+    // How many words are lent.
+    pub fn words(&self) -> usize {
+        self.kinds().len() + self.operands().len()
+    }
+
+    // Whether the lines that are lent are those that other code begins with.
+    pub fn is_same(&self, wanted: &Code) -> bool
+        ensures kinds { result ≡ true →
+            take self.now.kind_count self.now.kinds ≡ take self.now.kind_count wanted.now.kinds }
+        ensures operands { result ≡ true →
+            take self.now.operand_count self.now.operands ≡ take self.now.operand_count wanted.now.operands }
+    {
+        self.kinds() == wanted.first_kinds(self.kind_count)
+            && self.operands() == wanted.first_operands(self.operand_count)
+    }
+
+    // Whether a call with this answer leaves these arrays, where it translates to the code: all zero after a refusal.
+    pub fn is_left(&self, answer: u64, code: &Code) -> bool {
+        if is_refusal(number_of(answer)) {
+            self.is_same(&Code::longest())
+        } else {
+            self.is_same(code)
         }
-        at = put_line(line, at, kinds, operands);
-        start = past(case, start, b'\n');
-    }
-}
-
-// Compares the code arrays that a call was lent with the lines of the case. They are counted where they are the same.
-pub fn compare_lent(case: &[u8], kinds: &[u8], operands: &[i64], tally: &mut Tally) {
-    let mut case_kinds = [0u8; MOST_LINES];
-    let mut case_operands = [0i64; MOST_LINES];
-    fill_code(case, &mut case_kinds, &mut case_operands);
-    if same_code(kinds, operands, &case_kinds, &case_operands) {
-        tally::count(tally, tally::CODES, 1);
-        tally::count(tally, tally::CODE_WORDS, kinds.len() as u64);
-        tally::count(tally, tally::CODE_WORDS, operands.len() as u64);
     }
 }

@@ -2,126 +2,174 @@
 // case wants, and printed.
 ghost use Rattle.std.specs.Prelude.{◌<◌};
 
-use std::io;
+use std::fmt;
 
 // The parts of a tally: the eight calls, and the stores that histories end with.
-pub const TRANSLATE: usize = 0;
-
-pub const OPEN: usize = 1;
-
-pub const CHECK: usize = 2;
-
-pub const DELIVER: usize = 3;
-
-pub const SAVE: usize = 4;
-
-pub const RESTORE: usize = 5;
-
-pub const CHECK_CODE: usize = 6;
-
-pub const DELIVER_CODE: usize = 7;
-
-const LAST: usize = 8;
-
-// The columns of a part. The words are those of the code arrays and stores that are right. A save has its buffer in the
-// store's place, for it cannot change the store.
-const CALLS: usize = 0;
-
-const ANSWERS: usize = 1;
-
-pub const CODES: usize = 2;
-
-pub const CODE_WORDS: usize = 3;
-
-pub const STORES: usize = 4;
-
-pub const STORE_WORDS: usize = 5;
-
-const COLUMNS: usize = 6;
-
-// A row of 8 words for each of 32 numbers, in each part; then the row that is counted in.
-const ROW: usize = 2304;
-
-pub const TALLY_WORDS: usize = 2305;
-
-pub type Tally = [u64; TALLY_WORDS];
-
-// The row of a part and a number.
-fn row_of(part: usize, number: usize) -> usize
-    ensures { result < 288 }
-{
-    32 * (part % 9) + number % 32
+#[derive(Clone, Copy, PartialEq, Eq)]
+pub enum Part {
+    Translate,
+    Open,
+    Check,
+    Deliver,
+    Save,
+    Restore,
+    CheckCode,
+    DeliverCode,
+    Last,
 }
 
-// Where a count of a row stands.
-fn place(row: usize, column: usize) -> usize
-    ensures { result < 2304 }
-{
-    8 * (row % 288) + column % 8
-}
-
-// Turns to the row of a part and a number: what comes next is counted in it.
-pub fn turn_to(tally: &mut Tally, part: usize, number: usize) {
-    tally[ROW] = row_of(part, number) as u64;
-}
-
-// Adds to a count.
-pub fn count(tally: &mut Tally, column: usize, more: u64) {
-    let at = place(tally[ROW] as usize, column);
-    tally[at] = tally[at].wrapping_add(more);
-}
-
-// Counts a call, and whether its answer is right.
-pub fn count_call(tally: &mut Tally, right: bool) {
-    count(tally, CALLS, 1);
-    if right {
-        count(tally, ANSWERS, 1);
+impl Part {
+    // Its place among the parts.
+    fn index(self) -> usize
+        ensures { result < 9 }
+    {
+        match self {
+            Part::Translate => 0,
+            Part::Open => 1,
+            Part::Check => 2,
+            Part::Deliver => 3,
+            Part::Save => 4,
+            Part::Restore => 5,
+            Part::CheckCode => 6,
+            Part::DeliverCode => 7,
+            Part::Last => 8,
+        }
     }
 }
 
-// Turns to the stores that histories of deliveries end with, and counts one more.
-pub fn count_last(tally: &mut Tally) {
-    turn_to(tally, LAST, 0);
-    count(tally, CALLS, 1);
+impl fmt::Display for Part {
+    fn fmt<W: fmt::Write>(&self, f: &mut fmt::Formatter<W>) -> fmt::Result {
+        f.write_str(match self {
+            Part::Translate => "engine_translate",
+            Part::Open => "engine_open",
+            Part::Check => "engine_check",
+            Part::Deliver => "engine_deliver",
+            Part::Save => "engine_save",
+            Part::Restore => "engine_restore",
+            Part::CheckCode => "engine_check_code",
+            Part::DeliverCode => "engine_deliver_code",
+            Part::Last => "the stores that histories end with",
+        })
+    }
 }
 
-// Prints a row that anything is counted in: the number and its counts.
-fn print_row(rt: &impl Print, tally: &Tally, row: usize) -> io::Result<()> {
-    if tally[place(row, CALLS)] == 0 {
-        return Ok(());
-    }
-    print!(rt; "{}", row % 32)?;
-    let mut column = 0;
-    while column < COLUMNS {
-        print!(rt; " {}", tally[place(row, column)])?;
-        column = column + 1;
-    }
-    println!(rt; "")
+// What is counted of the calls of which one number is wanted. The words are those of the code arrays and stores that
+// are right. A save has its buffer in the store's place, for it cannot change the store.
+#[derive(Clone, Copy, PartialEq, Eq)]
+struct Counts {
+    calls: u64,
+    answers: u64,
+    codes: u64,
+    code_words: u64,
+    stores: u64,
+    store_words: u64,
 }
 
-// Prints a part: a row for each number that occurs.
-fn print_part(rt: &impl Print, tally: &Tally, part: usize, name: &str) -> io::Result<()> {
-    println!(rt; "{name}")?;
-    let mut number = 0;
-    while number < 32 {
-        print_row(rt, tally, row_of(part, number))?;
-        number = number + 1;
+const NONE: Counts = Counts {
+    calls: 0,
+    answers: 0,
+    codes: 0,
+    code_words: 0,
+    stores: 0,
+    store_words: 0,
+};
+
+impl fmt::Display for Counts {
+    fn fmt<W: fmt::Write>(&self, f: &mut fmt::Formatter<W>) -> fmt::Result {
+        write!(
+            f,
+            "{} {} {} {} {} {}",
+            self.calls, self.answers, self.codes, self.code_words, self.stores, self.store_words
+        )
     }
-    Ok(())
 }
 
-// Prints a tally.
-pub fn print_tally(rt: &impl Print, tally: &Tally) -> io::Result<()> {
-    println!(rt;
-        "number, calls, and what is right: answers, codes, their words, stores (saved buffers), their words"
-    )?;
-    print_part(rt, tally, TRANSLATE, "engine_translate")?;
-    print_part(rt, tally, OPEN, "engine_open")?;
-    print_part(rt, tally, CHECK, "engine_check")?;
-    print_part(rt, tally, DELIVER, "engine_deliver")?;
-    print_part(rt, tally, SAVE, "engine_save")?;
-    print_part(rt, tally, RESTORE, "engine_restore")?;
-    print_part(rt, tally, CHECK_CODE, "engine_check_code")?;
-    print_part(rt, tally, DELIVER_CODE, "engine_deliver_code")?;
-    print_part(rt, tally, LAST, "the stores that histories end with")
+// The counts of each part by number, and the part and the number that are counted next.
+#[derive(Clone, Copy)]
+pub struct Tally {
+    counts: [[Counts; 32]; 9],
+    part: Part,
+    number: usize,
+}
+
+impl Tally {
+    pub fn new() -> Self {
+        Tally {
+            counts: [[NONE; 32]; 9],
+            part: Part::Translate,
+            number: 0,
+        }
+    }
+
+    // Turns to a part and a number: what comes next is counted there.
+    pub fn turn_to(&mut self, part: Part, number: usize) {
+        self.part = part;
+        self.number = number;
+    }
+
+    // The counts that were turned to.
+    fn counts(&mut self) -> &mut Counts {
+        &mut self.counts[self.part.index()][self.number % 32]
+    }
+
+    // Counts a call, and whether its answer is right.
+    pub fn count_call(&mut self, right: bool) {
+        let counts = self.counts();
+        counts.calls = counts.calls.wrapping_add(1);
+        counts.answers = counts.answers.wrapping_add(u64::from(right));
+    }
+
+    // Counts a call's code arrays where they are right, with their words.
+    pub fn count_code(&mut self, right: bool, words: usize) {
+        if right {
+            let counts = self.counts();
+            counts.codes = counts.codes.wrapping_add(1);
+            counts.code_words = counts.code_words.wrapping_add(words as u64);
+        }
+    }
+
+    // Counts a call's store, or the buffer of a save, where it is right, with its words.
+    pub fn count_store(&mut self, right: bool, words: usize) {
+        if right {
+            let counts = self.counts();
+            counts.stores = counts.stores.wrapping_add(1);
+            counts.store_words = counts.store_words.wrapping_add(words as u64);
+        }
+    }
+
+    // Turns to the stores that histories of deliveries end with, and counts one more.
+    pub fn count_last(&mut self) {
+        self.turn_to(Part::Last, 0);
+        let counts = self.counts();
+        counts.calls = counts.calls.wrapping_add(1);
+    }
+
+    // Writes a part: a row for each number that occurs.
+    fn write_part<W: fmt::Write>(&self, f: &mut fmt::Formatter<W>, part: Part) -> fmt::Result {
+        writeln!(f, "{part}")?;
+        for (number, counts) in self.counts[part.index()].iter().enumerate() {
+            if counts.calls != 0 {
+                writeln!(f, "{number} {counts}")?;
+            }
+        }
+        Ok(())
+    }
+}
+
+impl fmt::Display for Tally {
+    fn fmt<W: fmt::Write>(&self, f: &mut fmt::Formatter<W>) -> fmt::Result {
+        writeln!(
+            f,
+            "number, calls, and what is right: answers, codes, their words, stores (saved buffers), their words"
+        )?;
+        self.write_part(f, Part::Translate)?;
+        self.write_part(f, Part::Open)?;
+        self.write_part(f, Part::Check)?;
+        self.write_part(f, Part::Deliver)?;
+        self.write_part(f, Part::Save)?;
+        self.write_part(f, Part::Restore)?;
+        self.write_part(f, Part::CheckCode)?;
+        self.write_part(f, Part::DeliverCode)?;
+        self.write_part(f, Part::Last)
+    }
 }

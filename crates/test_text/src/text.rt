@@ -1,5 +1,5 @@
 // The text of a file of cases: its parts, which are cases, lines and words, and positions in it.
-ghost use Rattle.std.specs.Prelude.{◌≡◌, ◌+◌, ◌<◌, ◌≤◌, min, true, length, take, drop, slice_index, IfOk};
+ghost use Rattle.std.specs.Prelude.{◌≡◌, ◌+◌, ◌≤◌, min, true, length, take, drop, slice_index, IfOk};
 ghost use Rattle.test_text.specs.Counts.{IsPrefixLen};
 
 use std::io::Read;
@@ -20,13 +20,14 @@ pub fn read_full<F: Read>(file: &mut F, text: &mut [u8]) -> io::Result<usize>
     ensures read { IfOk result (λ n. IsPrefixLen n text.new) }
     ensures as_long { length text.new ≡ length text.old }
 {
+    // (a `while`: each read says how far the place moves)
     let mut n = 0;
     while n < text.len() {
         let more = file.read(&mut text[n..])?;
         if more == 0 {
             return Ok(n);
         }
-        n = n + more;
+        n += more;
     }
     Ok(n)
 }
@@ -35,32 +36,24 @@ pub fn read_full<F: Read>(file: &mut F, text: &mut [u8]) -> io::Result<usize>
 pub fn byte_at(text: &[u8], at: usize) -> u8
     ensures { result ≡ slice_index text.now at }
 {
-    if at < text.len() {
-        return text[at];
-    }
-    0
+    text.get(at).copied().unwrap_or(0)
 }
 
 // The next position, as far as the text goes.
 pub fn after(text: &[u8], at: usize) -> usize
     ensures { result ≡ min (at + 1) (length text.now) }
 {
-    if at < text.len() {
-        return at + 1;
-    }
-    text.len()
+    if at < text.len() { at + 1 } else { text.len() }
 }
 
 // The first position from `at` on that has this byte, or the text's end.
 fn find(text: &[u8], at: usize, byte: u8) -> usize
     ensures { (min at (length text.now) ≤ result) × (result ≤ length text.now) }
 {
-    let mut i = at;
-    while i < text.len() {
+    for i in at..text.len() {
         if text[i] == byte {
             return i;
         }
-        i = i + 1;
     }
     text.len()
 }
@@ -91,12 +84,14 @@ pub fn stands_at(text: &[u8], at: usize, bytes: &[u8]) -> bool
 pub fn case_end(text: &[u8], at: usize) -> usize
     ensures { (min (at + 1) (length text.now) ≤ result) × (result ≤ length text.now) }
 {
+    // (a `while`: the place moves by a line)
     let mut i = at;
     while i < text.len() {
+        let next = past(text, i, b'\n');
         if stands_at(text, i, b"end\n") {
-            return past(text, i, b'\n');
+            return next;
         }
-        i = past(text, i, b'\n');
+        i = next;
     }
     text.len()
 }
@@ -105,6 +100,7 @@ pub fn case_end(text: &[u8], at: usize) -> usize
 pub fn start_of(case: &[u8], key: &[u8]) -> usize
     ensures { result ≤ length case.now }
 {
+    // (a `while`: the place moves by a line)
     let mut at = 0;
     while at < case.len() {
         if stands_at(case, at, key) {
@@ -118,10 +114,7 @@ pub fn start_of(case: &[u8], key: &[u8]) -> usize
 // The line that begins at `at`, without its line break.
 pub fn line_at(text: &[u8], at: usize) -> &[u8] {
     let end = find(text, at, b'\n');
-    if end < at {
-        return &text[end..end];
-    }
-    &text[at..end]
+    &text[at.min(end)..end]
 }
 
 // The first line of a case with this key, or nothing.
@@ -134,10 +127,8 @@ pub fn word(line: &[u8], index: usize) -> usize
     ensures { result ≤ length line.now }
 {
     let mut at = 0;
-    let mut left = index;
-    while 0 < left {
+    for _ in 0..index {
         at = past(line, at, b' ');
-        left = left - 1;
     }
     at
 }

@@ -1,146 +1,110 @@
 // The cells that a store has in use while a delivery is worked: one for each array that is reached from a root, and one
-// for each map and filter in progress. A root is a word: 0 for a number, else an array and 1 more. The roots are all
-// values that are still needed: what is held for a node's other parts or for its passes, and what names used later are
-// bound to.
-use super::arrays;
-use super::memory::{
-    CELLS, IN_PROGRESS, LOWEST, MARK, Memory, ROOT_COUNT, ROOT_WORDS, ROOTS, Typed,
-};
+// for each map and filter in progress. A root is an array, or none for a number. The roots are all values that are
+// still needed: what is held for a node's other parts or for its passes, and what names used later are bound to.
+use super::memory::{Memory, ROOT_WORDS};
+use super::{Stop, Value};
 
 // The depth of the deepest array.
 const MOST_DEPTH: u64 = 4;
 
-// Adds a root. One that has no room is not counted, which shows as a difference.
-pub fn push(memory: &mut Memory, root: Typed) {
-    let count = memory[ROOT_COUNT] as usize;
-    if ROOT_WORDS <= count {
-        return;
+impl Memory {
+    // Adds a root. One that has no room is not counted, which shows as a difference.
+    pub fn push(&mut self, root: Value) {
+        if self.root_count < ROOT_WORDS {
+            self.roots[self.root_count] = if root.is_array {
+                u32::try_from(root.bits).ok()
+            } else {
+                None
+            };
+            self.root_count += 1;
+        }
     }
-    memory[ROOTS + count] = 0;
-    if root.is_array == 1 {
-        memory[ROOTS + count] = std::num::wrapping_add_u64(root.value, 1);
-    }
-    memory[ROOT_COUNT] = count as u64 + 1;
-}
 
-// Takes away so many of the last roots.
-pub fn pop(memory: &mut Memory, count: u64) {
-    let before = memory[ROOT_COUNT];
-    if count <= before {
-        memory[ROOT_COUNT] = before - count;
+    // Takes away so many of the last roots.
+    pub fn pop(&mut self, count: usize) {
+        if count <= self.root_count {
+            self.root_count -= count;
+        }
     }
-}
 
-// Puts a word in the place of the root that is so many places from the end; the word that was there, or 0 where there
-// is no such place.
-fn exchange(memory: &mut Memory, back: usize, word: u64) -> u64 {
-    let count = memory[ROOT_COUNT] as usize;
-    if back == 0 {
-        return 0;
+    // Puts a root in the place of the one that is so many places from the end; the one that was there, or none where
+    // there is no such place.
+    fn exchange(&mut self, back: usize, root: Option<u32>) -> Option<u32> {
+        let count = self.root_count;
+        if back == 0 || count < back || ROOT_WORDS < count {
+            return None;
+        }
+        let old = self.roots[count - back];
+        self.roots[count - back] = root;
+        old
     }
-    if count < back {
-        return 0;
-    }
-    if ROOT_WORDS < count {
-        return 0;
-    }
-    let root = memory[ROOTS + count - back];
-    memory[ROOTS + count - back] = word;
-    root
-}
 
-// Takes away the root that is so many places from the end, and leaves its place to a number; 1 where it was an array,
-// else 0.
-pub fn take_out(memory: &mut Memory, back: usize) -> u64 {
-    if exchange(memory, back, 0) == 0 {
-        return 0;
+    // Takes away the root that is so many places from the end, and leaves its place to a number; whether it was an
+    // array.
+    pub fn take_out(&mut self, back: usize) -> bool {
+        self.exchange(back, None).is_some()
     }
-    1
-}
 
-// How many arrays of at most some depth this one reaches, itself included, that do not have the present mark; they get
-// it.
-fn reach(memory: &mut Memory, array: u64, depth: u64) -> u64 {
-    if depth == 0 {
-        return 0;
+    // How many arrays of at most some depth this one reaches, itself included, that do not have the present mark; they
+    // get it.
+    fn reach(&mut self, array: u64, depth: u64) -> u64 {
+        let mark = self.mark;
+        if depth == 0 || !self.set_mark(array, mark) {
+            return 0;
+        }
+        let mut count: u64 = 1;
+        for i in 0..self.inner_count(array) {
+            let element = self.element_bits(array, i);
+            count = count.wrapping_add(self.reach(element, depth - 1));
+        }
+        count
     }
-    let mark = memory[MARK];
-    if !arrays::set_mark(memory, array, mark) {
-        return 0;
-    }
-    let mut count: u64 = 1;
-    let inner = arrays::inner_count(memory, array);
-    let mut i: u64 = 0;
-    while i < inner {
-        let element = arrays::element_at(memory, array, i);
-        let more = reach(memory, element, depth - 1);
-        count = std::num::wrapping_add_u64(count, more);
-        i = i + 1;
-    }
-    count
-}
 
-// How many arrays a root reaches that do not have the present mark; they get it.
-fn reach_root(memory: &mut Memory, i: usize) -> u64 {
-    let root = memory[ROOTS + i % ROOT_WORDS];
-    if root == 0 {
-        return 0;
+    // How many arrays the roots reach.
+    pub fn reached(&mut self) -> u64 {
+        self.mark = self.mark.wrapping_add(1);
+        let mut count: u64 = 0;
+        for i in 0..self.root_count.min(ROOT_WORDS) {
+            if let Some(array) = self.roots[i] {
+                count = count.wrapping_add(self.reach(u64::from(array), MOST_DEPTH));
+            }
+        }
+        count
     }
-    reach(memory, root - 1, MOST_DEPTH)
-}
 
-// How many arrays the roots reach.
-pub fn reached(memory: &mut Memory) -> u64 {
-    memory[MARK] = std::num::wrapping_add_u64(memory[MARK], 1);
-    let roots = memory[ROOT_COUNT] as usize % (ROOT_WORDS + 1);
-    let mut count: u64 = 0;
-    let mut i: usize = 0;
-    while i < roots {
-        let more = reach_root(memory, i);
-        count = std::num::wrapping_add_u64(count, more);
-        i = i + 1;
+    // How many cells are free.
+    fn free(&mut self) -> u64 {
+        let used = self.reached().wrapping_add(self.in_progress);
+        self.cells.saturating_sub(used)
     }
-    count
-}
 
-// How many cells are free.
-fn free(memory: &mut Memory) -> u64 {
-    let used = std::num::wrapping_add_u64(reached(memory), memory[IN_PROGRESS]);
-    if memory[CELLS] < used {
-        return 0;
+    // Begins a delivery to totals: they are the only root, and the level is the lowest yet.
+    pub fn begin_delivery(&mut self, totals: Value) {
+        self.root_count = 0;
+        self.in_progress = 0;
+        self.push(totals);
+        self.lowest = self.free();
     }
-    memory[CELLS] - used
-}
 
-// Begins a delivery to totals: they are the only root, and the level is the lowest yet.
-pub fn begin(memory: &mut Memory, totals: Typed) {
-    memory[ROOT_COUNT] = 0;
-    memory[IN_PROGRESS] = 0;
-    push(memory, totals);
-    let level = free(memory);
-    memory[LOWEST] = level;
-}
+    // Takes away the root that is so many places from the end if nothing else reaches its array; false where it stays.
+    pub fn take_over(&mut self, back: usize) -> bool {
+        let before = self.reached();
+        let root = self.exchange(back, None);
+        if self.reached() < before {
+            return true;
+        }
+        self.exchange(back, root);
+        false
+    }
 
-// Takes away the root that is so many places from the end if nothing else reaches its array; false where it stays.
-pub fn take_over(memory: &mut Memory, back: usize) -> bool {
-    let before = reached(memory);
-    let root = exchange(memory, back, 0);
-    if reached(memory) < before {
-        return true;
+    // Takes a cell, if one is free.
+    pub fn take(&mut self) -> Result<(), Stop> {
+        let level = self.free();
+        if level == 0 {
+            self.lowest = 0;
+            return Err(Stop::OutOfCells);
+        }
+        self.lowest = self.lowest.min(level - 1);
+        Ok(())
     }
-    exchange(memory, back, root);
-    false
-}
-
-// Takes a cell; false where none is free.
-pub fn take(memory: &mut Memory) -> bool {
-    let level = free(memory);
-    if level == 0 {
-        memory[LOWEST] = 0;
-        return false;
-    }
-    if level - 1 < memory[LOWEST] {
-        memory[LOWEST] = level - 1;
-    }
-    true
 }

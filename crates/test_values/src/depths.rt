@@ -1,85 +1,87 @@
 // The depths of a script's parts, found in the written nodes: 0 for a number, and for an array one more than that of
 // its elements. A value does not say its depth, since an array may be empty.
+use super::kinds::Kind;
 use super::memory::Memory;
-use super::{handing, kinds, rows};
+use super::rows::MOST_NODES;
 
 // One deeper.
 fn above(depth: u64) -> u64 {
-    std::num::wrapping_add_u64(depth, 1)
+    depth.wrapping_add(1)
 }
 
 // One less deep: the depth of an array's elements.
 fn below(depth: u64) -> u64 {
-    if depth == 0 {
-        return 0;
+    depth.saturating_sub(1)
+}
+
+impl Memory {
+    // The depth of a node's value, as far as it is found.
+    pub fn depth(&self, node: usize) -> u64 {
+        self.row(node).depth
     }
-    depth - 1
-}
 
-// The depth of a part of a node, as far as it is found.
-fn part_depth(memory: &Memory, node: usize, part: u64) -> u64 {
-    rows::depth_at(memory, rows::part_at(memory, node, part))
-}
-
-// The depth of what a reduce binds to a name: its second name, an element, hides an equal first.
-fn pass_depth(memory: &Memory, reduce: usize, name: u64) -> u64 {
-    if kinds::high(rows::operand_at(memory, reduce)) == name {
-        return below(part_depth(memory, reduce, 1));
+    // The depth of a part of a node.
+    pub fn part_depth(&self, node: usize, part: usize) -> u64 {
+        self.depth(self.part(node, part))
     }
-    part_depth(memory, reduce, 0)
-}
 
-// The depth of what a name is bound to.
-fn name_depth(memory: &Memory, node: usize) -> u64 {
-    let binder = handing::binder_of(memory, node);
-    match rows::kind_at(memory, binder) {
-        kinds::PARAMETER => kinds::high(rows::operand_at(memory, binder)),
-        kinds::LET => part_depth(memory, binder, 0),
-        kinds::REDUCE => pass_depth(memory, binder, rows::operand_at(memory, node)),
-        _ => below(part_depth(memory, binder, 0)),
+    // The depth that a node's operand says, of its value or of its elements.
+    fn said_depth(&self, node: usize) -> u64 {
+        u64::from(self.high(node))
     }
-}
 
-// The depth of what a function gives.
-fn result_depth(memory: &Memory, function: usize) -> u64 {
-    kinds::high(rows::operand_at(memory, function))
-}
-
-// The depth of a node, by those of other nodes as far as they are found.
-fn depth_of(memory: &Memory, node: usize) -> u64 {
-    match rows::kind_at(memory, node) {
-        kinds::NAME => name_depth(memory, node),
-        kinds::LET | kinds::IF => part_depth(memory, node, 1),
-        kinds::CALL => result_depth(memory, rows::callee_at(memory, node)),
-        kinds::LITERAL => above(kinds::high(rows::operand_at(memory, node))),
-        kinds::INDEX => below(part_depth(memory, node, 0)),
-        kinds::MAP | kinds::REPLICATE => above(part_depth(memory, node, 1)),
-        kinds::IOTA => 1,
-        kinds::FILTER | kinds::REDUCE => part_depth(memory, node, 0),
-        _ => 0,
-    }
-}
-
-// Finds the depths of a script of so many nodes, once through; whether one is not what it was.
-fn find_once(memory: &mut Memory, nodes: usize) -> bool {
-    let mut changed = false;
-    let mut node = nodes;
-    while 0 < node {
-        node = node - 1;
-        let depth = depth_of(memory, node);
-        changed = changed || depth != rows::depth_at(memory, node);
-        rows::set_depth(memory, node, depth);
-    }
-    changed
-}
-
-// Finds the depths of a script of so many nodes. Each time through finds one more for good, or is the last.
-pub fn find_depths(memory: &mut Memory, nodes: usize) {
-    let mut left = nodes;
-    while 0 < left {
-        if !find_once(memory, nodes) {
-            return;
+    // The depth of what a reduce binds to a name: its second name, an element, hides an equal first.
+    fn pass_depth(&self, reduce: usize, name: u8) -> u64 {
+        if self.high(reduce) == name {
+            below(self.part_depth(reduce, 1))
+        } else {
+            self.part_depth(reduce, 0)
         }
-        left = left - 1;
+    }
+
+    // The depth of what a name is bound to.
+    fn name_depth(&self, node: usize) -> u64 {
+        let binder = self.binder(node);
+        match self.kind(binder) {
+            Kind::Parameter => self.said_depth(binder),
+            Kind::Let => self.part_depth(binder, 0),
+            Kind::Reduce => self.pass_depth(binder, self.low(node)),
+            _ => below(self.part_depth(binder, 0)),
+        }
+    }
+
+    // The depth of a node, by those of other nodes as far as they are found.
+    fn depth_of(&self, node: usize) -> u64 {
+        match self.kind(node) {
+            Kind::Name => self.name_depth(node),
+            Kind::Let | Kind::If => self.part_depth(node, 1),
+            Kind::Call => self.said_depth(self.callee(node)),
+            Kind::Literal => above(self.said_depth(node)),
+            Kind::Index => below(self.part_depth(node, 0)),
+            Kind::Map | Kind::Replicate => above(self.part_depth(node, 1)),
+            Kind::Iota => 1,
+            Kind::Filter | Kind::Reduce => self.part_depth(node, 0),
+            _ => 0,
+        }
+    }
+
+    // Finds the depths of a script of so many nodes, once through; whether one is not what it was.
+    fn find_once(&mut self, nodes: usize) -> bool {
+        let mut changed = false;
+        for node in (0..nodes).rev() {
+            let depth = self.depth_of(node);
+            changed |= depth != self.depth(node);
+            self.rows[node % MOST_NODES].depth = depth;
+        }
+        changed
+    }
+
+    // Finds the depths of a script of so many nodes. Each time through finds one more for good, or is the last.
+    pub fn find_depths(&mut self, nodes: usize) {
+        for _ in 0..nodes {
+            if !self.find_once(nodes) {
+                return;
+            }
+        }
     }
 }

@@ -1,105 +1,82 @@
 // Which names are used later. A name that stands in a script is a use, unless its value only goes to a let whose own
 // name has no use: such a let needs nothing.
+use super::kinds::Kind;
 use super::memory::Memory;
-use super::{cells, kinds, memory, rows};
 
 // The levels of a function's body.
-pub const MOST_LEVELS: u64 = 64;
+pub const MOST_LEVELS: usize = 64;
 
-// Whether a node binds a name at a later node, which is in its body.
-pub fn binds(memory: &Memory, binder: usize, node: usize, name: u64) -> bool {
-    let operand = rows::operand_at(memory, binder);
-    let is_first = kinds::low(operand) == name;
-    let is_named = match rows::kind_at(memory, binder) {
-        kinds::LET | kinds::MAP | kinds::FILTER => is_first,
-        kinds::REDUCE => is_first || kinds::high(operand) == name,
-        _ => false,
-    };
-    if !is_named {
-        return false;
+impl Memory {
+    // Whether a node binds a name at a later node, which is in its body.
+    pub fn binds(&self, binder: usize, node: usize, name: u8) -> bool {
+        let is_named = match self.kind(binder) {
+            Kind::Let | Kind::Map | Kind::Filter => self.low(binder) == name,
+            Kind::Reduce => self.low(binder) == name || self.high(binder) == name,
+            _ => false,
+        };
+        is_named && self.body(binder) <= node && node < self.end(binder)
     }
-    if node < rows::body_at(memory, binder) {
-        return false;
-    }
-    node < rows::end_at(memory, binder)
-}
 
-// Whether a node is a use of a name that no node from `start` on binds there.
-fn is_use_from(memory: &Memory, start: usize, node: usize) -> bool {
-    if rows::kind_at(memory, node) != kinds::NAME {
-        return false;
-    }
-    if !rows::is_noted(memory, node) {
-        return false;
-    }
-    let name = rows::operand_at(memory, node);
-    let mut binder = start;
-    while binder < node {
-        if binds(memory, binder, node, name) {
+    // Whether a node is a use of a name that no node from `start` on binds there.
+    fn is_use_from(&self, start: usize, node: usize) -> bool {
+        if self.kind(node) != Kind::Name || !self.is_noted(node) {
             return false;
         }
-        binder = binder + 1;
-    }
-    true
-}
-
-// Whether the body of a let has a use of its name.
-fn has_use(memory: &Memory, binder: usize) -> bool {
-    let name = kinds::low(rows::operand_at(memory, binder));
-    let body = rows::body_at(memory, binder);
-    let past = rows::end_at(memory, binder);
-    let mut node = body;
-    while node < past {
-        if rows::operand_at(memory, node) == name && is_use_from(memory, body, node) {
-            return true;
+        let name = self.low(node);
+        for binder in start..node {
+            if self.binds(binder, node, name) {
+                return false;
+            }
         }
-        node = node + 1;
+        true
     }
-    false
-}
 
-// The part that gives the value of a node on: the last of those around the node that is not the body of a let.
-pub fn giving_part(memory: &Memory, node: usize) -> usize {
-    let mut part = node;
-    let mut left = MOST_LEVELS;
-    while 0 < left {
-        let parent = rows::parent_at(memory, part);
-        if rows::kind_at(memory, parent) != kinds::LET || part != rows::body_at(memory, parent) {
-            return part;
+    // Whether the body of a let has a use of its name.
+    fn has_use(&self, binder: usize) -> bool {
+        let name = self.low(binder);
+        let body = self.body(binder);
+        for node in body..self.end(binder) {
+            if self.low(node) == name && self.is_use_from(body, node) {
+                return true;
+            }
         }
-        part = parent;
-        left = left - 1;
+        false
     }
-    part
-}
 
-// Whether the value of a node goes to more than a let that needs nothing. The uses among later nodes are noted.
-fn is_needed(memory: &Memory, node: usize) -> bool {
-    let parent = rows::parent_at(memory, giving_part(memory, node));
-    rows::kind_at(memory, parent) != kinds::LET || has_use(memory, parent)
-}
+    // The part that gives the value of a node on: the last of those around the node that is not the body of a let.
+    pub fn giving_part(&self, node: usize) -> usize {
+        let mut part = node;
+        for _ in 0..MOST_LEVELS {
+            let parent = self.parent(part);
+            if self.kind(parent) != Kind::Let || part != self.body(parent) {
+                return part;
+            }
+            part = parent;
+        }
+        part
+    }
 
-// Notes the uses of a script of so many nodes, from the last node back.
-pub fn note_uses(memory: &mut Memory, nodes: usize) {
-    let mut node = nodes;
-    while 0 < node {
-        node = node - 1;
-        if rows::kind_at(memory, node) == kinds::NAME && is_needed(memory, node) {
-            rows::note(memory, node);
+    // Whether the value of a node goes to more than a let that needs nothing. The uses among later nodes are noted.
+    fn is_needed(&self, node: usize) -> bool {
+        let parent = self.parent(self.giving_part(node));
+        self.kind(parent) != Kind::Let || self.has_use(parent)
+    }
+
+    // Notes the uses of a script of so many nodes, from the last node back.
+    pub fn note_uses(&mut self, nodes: usize) {
+        for node in (0..nodes).rev() {
+            if self.kind(node) == Kind::Name && self.is_needed(node) {
+                self.note(node);
+            }
         }
     }
-}
 
-// Makes roots of what names are bound to that a node's parts from `start` on use.
-pub fn push_uses(memory: &mut Memory, call: u64, parent: usize, start: usize) {
-    let past = rows::end_at(memory, parent);
-    let mut node = start;
-    while node < past {
-        if is_use_from(memory, parent, node) {
-            let name = rows::operand_at(memory, node);
-            let root = memory::name_at(memory, call, name);
-            cells::push(memory, root);
+    // Makes roots of what names are bound to that a node's parts from `start` on use.
+    pub fn push_uses(&mut self, call: usize, parent: usize, start: usize) {
+        for node in start..self.end(parent) {
+            if self.is_use_from(parent, node) {
+                self.push(self.name(call, self.low(node)));
+            }
         }
-        node = node + 1;
     }
 }

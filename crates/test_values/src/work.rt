@@ -1,273 +1,216 @@
 // The workers of the nodes. They call each other: what falls is the calls left and, within a call, the levels left.
 // A let and a pass bind a name of their call, and put its value back.
-use super::memory::{IS_ARRAY, Memory, ROOT_COUNT, TOTALS, Typed};
-use super::rows::FILE_BYTES;
-use super::{
-    VALUE_WORDS, Worked, arrays, cells, depths, handing, kinds, leaves, loops, memory, rows, stops,
-    uses,
-};
+ghost use Rattle.std.specs.Prelude.{◌≡◌};
 
-// The levels of a function's body, and the calls that stand below main.
-const MOST_LEVELS: u64 = 64;
+use super::kinds::Kind;
+use super::loops::{Results, is_answer};
+use super::memory::Memory;
+use super::rows::{FILE_BYTES, node_count};
+use super::uses::MOST_LEVELS;
+use super::{Stop, VALUE_WORDS, Value, Values, Worked};
 
-const MOST_CALLS: u64 = 31;
+// The calls that stand below main.
+const MOST_CALLS: usize = 31;
 
 // Where the work stands: at a node, with so many levels and calls left.
 #[derive(Clone, Copy)]
 struct Place {
     node: usize,
-    levels: u64,
-    calls: u64,
+    levels: usize,
+    calls: usize,
 }
 
-// Works the part that begins at a node.
-#[cycle(work_call_work_if_work_let_work_loop_work_node_work_part_work_parts_work_pass_work_under)]
-fn work_part(memory: &mut Memory, at: Place) -> Worked {
-    if at.levels == 0 {
-        return Worked::Stop(stops::BROKEN);
+impl Place {
+    // Another node at the same levels.
+    fn at(self, node: usize) -> Place
+        ensures levels { result.levels ≡ self.levels }
+        ensures calls { result.calls ≡ self.calls }
+    {
+        Place { node, ..self }
     }
-    let kind = rows::kind_at(memory, at.node);
-    let operand = rows::operand_at(memory, at.node);
-    if kind == kinds::NUMBER {
-        memory[IS_ARRAY] = 0;
-        return Worked::Value(operand);
-    }
-    if kind == kinds::NAME {
-        let named = memory::name_at(memory, at.calls, operand);
-        memory[IS_ARRAY] = named.is_array;
-        return Worked::Value(named.value);
-    }
-    let roots = memory[ROOT_COUNT];
-    let mut values = [0u64; VALUE_WORDS];
-    let below = Place {
-        node: at.node,
-        levels: at.levels - 1,
-        calls: at.calls,
-    };
-    let stop = work_parts(memory, below, &mut values);
-    if stop != 0 {
-        return Worked::Stop(stop);
-    }
-    let r = work_node(memory, below, &values);
-    memory[ROOT_COUNT] = roots;
-    r
 }
 
-// Works the first parts of a node, and keeps their values; the number of the stop, or 0. While a part is worked, what
-// the parts after it use are roots; then its value is one.
-#[cycle(work_call_work_if_work_let_work_loop_work_node_work_part_work_parts_work_pass_work_under)]
-fn work_parts(memory: &mut Memory, at: Place, values: &mut [u64; VALUE_WORDS]) -> u64 {
-    let row = rows::row_at(memory, at.node);
-    let mut part = rows::part_at(memory, at.node, 0);
-    let mut i: usize = 0;
-    while i < row.first as usize {
-        let inside = Place {
-            node: part,
-            levels: at.levels,
-            calls: at.calls,
+impl Memory {
+    // Works the part that begins at a node.
+    #[cycle(work)]
+    fn work_part(&mut self, at: Place) -> Worked {
+        if at.levels == 0 {
+            return Err(Stop::Broken);
+        }
+        match self.kind(at.node) {
+            Kind::Number => return Ok(Value::number(self.operand(at.node))),
+            Kind::Name => return Ok(self.name(at.calls, self.low(at.node))),
+            _ => {}
+        }
+        let below = Place {
+            levels: at.levels - 1,
+            ..at
         };
-        let roots = memory[ROOT_COUNT];
-        part = rows::end_at(memory, part);
-        uses::push_uses(memory, at.calls, at.node, part);
-        match work_part(memory, inside) {
-            Worked::Value(v) => {
-                values[i % VALUE_WORDS] = v;
-            }
-            Worked::Stop(n) => {
-                return n;
+        let roots = self.root_count;
+        let mut values = [Value::number(0); VALUE_WORDS];
+        self.work_parts(below, &mut values)?;
+        let value = self.work_node(below, &values);
+        self.root_count = roots;
+        value
+    }
+
+    // Works the first parts of a node, and keeps their values. While a part is worked, what the parts after it use are
+    // roots; then its value is one.
+    #[cycle(work)]
+    fn work_parts(&mut self, at: Place, values: &mut Values) -> Result<(), Stop> {
+        let mut part = self.part(at.node, 0);
+        for i in 0..self.shape(at.node).first {
+            let inside = at.at(part);
+            let roots = self.root_count;
+            part = self.end(part);
+            self.push_uses(at.calls, at.node, part);
+            let value = self.work_part(inside)?;
+            values[i % VALUE_WORDS] = value;
+            self.root_count = roots;
+            self.push(value);
+        }
+        Ok(())
+    }
+
+    // Works a node whose first parts are worked.
+    #[cycle(work)]
+    fn work_node(&mut self, at: Place, values: &Values) -> Worked {
+        match self.kind(at.node) {
+            Kind::Let => self.work_let(at, values[0]),
+            Kind::Call => self.work_call(at, values),
+            Kind::If => self.work_if(at, values[0].bits),
+            Kind::Map | Kind::Filter | Kind::Reduce => self.work_loop(at, values),
+            _ => self.work_leaf(at.node, values),
+        }
+    }
+
+    // Works a let, whose value is no root but by the uses of its name.
+    #[cycle(work)]
+    fn work_let(&mut self, at: Place, value: Value) -> Worked {
+        self.pop(1);
+        self.work_under(at, value)
+    }
+
+    // Works the body of a let or a loop with a value under its name, or under the second name of a reduce.
+    #[cycle(work)]
+    fn work_under(&mut self, at: Place, bound: Value) -> Worked {
+        let name = self.bound_name(at.node);
+        let old = self.bind(at.calls, name, bound);
+        let value = self.work_part(at.at(self.body(at.node)));
+        self.bind(at.calls, name, old);
+        value
+    }
+
+    // Works an if: its step, then the branch that its guard takes.
+    #[cycle(work)]
+    fn work_if(&mut self, at: Place, guard: u64) -> Worked {
+        self.step()?;
+        if !is_answer(guard) {
+            return Err(Stop::BadGuard);
+        }
+        self.work_part(at.at(self.branch(at.node, guard)))
+    }
+
+    // Works a map, a filter or a reduce: its step, then one pass for each element. A reduce starts from its
+    // first value.
+    #[cycle(work)]
+    fn work_loop(&mut self, at: Place, values: &Values) -> Worked {
+        let kind = self.kind(at.node);
+        self.step()?;
+        let start = Value {
+            bits: values[0].bits,
+            is_array: self.begin_loop(at.calls, at.node)?,
+        };
+        let array = values[if kind == Kind::Reduce { 1 } else { 0 }].bits;
+        let mut results = Results::none(start);
+        for i in 0..self.length(array) {
+            let element = self.element(array, i);
+            let given = self.work_pass(at, results.running, element)?;
+            results.keep(kind, element, given)?;
+            // (a map's result is a root until its loop ends)
+            if kind == Kind::Map {
+                self.push(given);
             }
         }
-        memory[ROOT_COUNT] = roots;
-        let root = Typed {
-            value: values[i % VALUE_WORDS],
-            is_array: memory[IS_ARRAY],
-        };
-        cells::push(memory, root);
-        i = i + 1;
+        self.end_loop(kind, array, &results)
     }
-    0
-}
 
-// Works a node whose first parts are worked.
-#[cycle(work_call_work_if_work_let_work_loop_work_node_work_part_work_parts_work_pass_work_under)]
-fn work_node(memory: &mut Memory, at: Place, values: &[u64; VALUE_WORDS]) -> Worked {
-    let first = values[0];
-    match rows::kind_at(memory, at.node) {
-        kinds::LET => work_let(memory, at, first),
-        kinds::CALL => work_call(memory, at, values),
-        kinds::IF => work_if(memory, at, first),
-        kinds::MAP | kinds::FILTER | kinds::REDUCE => work_loop(memory, at, values),
-        _ => leaves::work_leaf(memory, at.node, values),
-    }
-}
-
-// Works a let, whose value is no root but by the uses of its name.
-#[cycle(work_call_work_if_work_let_work_loop_work_node_work_part_work_parts_work_pass_work_under)]
-fn work_let(memory: &mut Memory, at: Place, value: u64) -> Worked {
-    let bound = Typed {
-        value: value,
-        is_array: memory[IS_ARRAY],
-    };
-    cells::pop(memory, 1);
-    work_under(memory, at, bound)
-}
-
-// Works the body of a let or a loop with a value under its name, or under the second name of a reduce.
-#[cycle(work_call_work_if_work_let_work_loop_work_node_work_part_work_parts_work_pass_work_under)]
-fn work_under(memory: &mut Memory, at: Place, bound: Typed) -> Worked {
-    let name = rows::bound_name(memory, at.node);
-    let old = memory::name_at(memory, at.calls, name);
-    memory::set_name(memory, at.calls, name, bound);
-    let body = Place {
-        node: rows::body_at(memory, at.node),
-        levels: at.levels,
-        calls: at.calls,
-    };
-    let r = work_part(memory, body);
-    memory::set_name(memory, at.calls, name, old);
-    r
-}
-
-// Works an if: its step, then the branch that its guard takes.
-#[cycle(work_call_work_if_work_let_work_loop_work_node_work_part_work_parts_work_pass_work_under)]
-fn work_if(memory: &mut Memory, at: Place, guard: u64) -> Worked {
-    if !memory::step(memory) {
-        return Worked::Stop(stops::OUT_OF_STEPS);
-    }
-    if !loops::is_answer(guard) {
-        return Worked::Stop(stops::BAD_GUARD);
-    }
-    let branch = Place {
-        node: rows::branch_at(memory, at.node, guard),
-        levels: at.levels,
-        calls: at.calls,
-    };
-    work_part(memory, branch)
-}
-
-// Works a map, a filter or a reduce: its step, then one pass for each element. A reduce starts from its first value.
-#[cycle(work_call_work_if_work_let_work_loop_work_node_work_part_work_parts_work_pass_work_under)]
-fn work_loop(memory: &mut Memory, at: Place, values: &[u64; VALUE_WORDS]) -> Worked {
-    let kind = rows::kind_at(memory, at.node);
-    if !memory::step(memory) {
-        return Worked::Stop(stops::OUT_OF_STEPS);
-    }
-    if !loops::begin(memory, at.calls, at.node) {
-        return Worked::Stop(stops::OUT_OF_CELLS);
-    }
-    let array = loops::array_of(kind, values);
-    let length = arrays::length_at(memory, array);
-    let mut results = [values[0]; VALUE_WORDS];
-    let mut count: u64 = 0;
-    let mut i: u64 = 0;
-    while i < length {
-        let element = Typed {
-            value: arrays::element_at(memory, array, i),
-            is_array: arrays::holds_arrays(memory, array),
-        };
-        match work_pass(memory, at, results[0], element) {
-            Worked::Value(v) => {
-                if !loops::is_told(kind, v) {
-                    return Worked::Stop(stops::BAD_GUARD);
-                }
-                count = loops::keep(&mut results, count, kind, element.value, v);
-                loops::push_result(memory, kind, v);
-            }
-            Worked::Stop(n) => {
-                return Worked::Stop(n);
-            }
+    // Works one pass: its step, then the body under the element's name. In a reduce the running value has the first of
+    // two names, which an equal second hides.
+    #[cycle(work)]
+    fn work_pass(&mut self, at: Place, running: Value, element: Value) -> Worked {
+        self.step()?;
+        if self.kind(at.node) != Kind::Reduce {
+            return self.work_under(at, element);
         }
-        i = i + 1;
+        let name = self.low(at.node);
+        let old = self.bind(at.calls, name, running);
+        let value = self.work_under(at, element);
+        self.bind(at.calls, name, old);
+        value
     }
-    loops::value_of(kind, array, &results, count, memory)
-}
 
-// Works one pass: its step, then the body under the element's name. In a reduce the running value has the first of two
-// names, which an equal second hides.
-#[cycle(work_call_work_if_work_let_work_loop_work_node_work_part_work_parts_work_pass_work_under)]
-fn work_pass(memory: &mut Memory, at: Place, running: u64, element: Typed) -> Worked {
-    if !memory::step(memory) {
-        return Worked::Stop(stops::OUT_OF_STEPS);
-    }
-    if rows::kind_at(memory, at.node) != kinds::REDUCE {
-        return work_under(memory, at, element);
-    }
-    let name = kinds::low(rows::operand_at(memory, at.node));
-    let old = memory::name_at(memory, at.calls, name);
-    let carried = Typed {
-        value: running,
-        is_array: memory[IS_ARRAY],
-    };
-    memory::set_name(memory, at.calls, name, carried);
-    let r = work_under(memory, at, element);
-    memory::set_name(memory, at.calls, name, old);
-    r
-}
-
-// Works a call: its step, then the function's body under its parameters alone. Values that the function only reads stay
-// roots till the end of the call, and the others are handed to it.
-#[cycle(work_call_work_if_work_let_work_loop_work_node_work_part_work_parts_work_pass_work_under)]
-fn work_call(memory: &mut Memory, at: Place, values: &[u64; VALUE_WORDS]) -> Worked {
-    if !memory::step(memory) {
-        return Worked::Stop(stops::OUT_OF_STEPS);
-    }
-    if at.calls == 0 {
-        return Worked::Stop(stops::CALL_TOO_DEEP);
-    }
-    let calls = at.calls - 1;
-    let row = rows::row_at(memory, at.node);
-    let function = rows::callee_at(memory, at.node);
-    handing::hand_over(memory, function, row.first);
-    let body = Place {
-        node: rows::bind_parameters(memory, function, calls, values),
-        levels: MOST_LEVELS,
-        calls: calls,
-    };
-    work_part(memory, body)
-}
-
-// Works main on the totals and the first of these readings, which take a cell. Main is the first of 32 nested calls.
-pub fn work_main(memory: &mut Memory, readings: &[u64; VALUE_WORDS], count: u64) -> Worked {
-    let mut values = [memory[TOTALS]; VALUE_WORDS];
-    cells::begin(memory, totals(memory));
-    if !cells::take(memory) {
-        return Worked::Stop(stops::OUT_OF_CELLS);
-    }
-    match arrays::make_array(memory, readings, count, 0) {
-        Worked::Value(row) => {
-            values[1] = row;
-            let main = Place {
-                node: rows::bind_parameters(memory, 0, MOST_CALLS, &values),
-                levels: MOST_LEVELS,
-                calls: MOST_CALLS,
-            };
-            work_part(memory, main)
+    // Works a call: its step, then the function's body under its parameters alone. Values that the function only reads
+    // stay roots till the end of the call, and the others are handed to it.
+    #[cycle(work)]
+    fn work_call(&mut self, at: Place, values: &Values) -> Worked {
+        self.step()?;
+        if at.calls == 0 {
+            return Err(Stop::CallTooDeep);
         }
-        Worked::Stop(n) => Worked::Stop(n),
+        let calls = at.calls - 1;
+        let function = self.callee(at.node);
+        self.hand_over(function, self.shape(at.node).first);
+        let body = Place {
+            node: self.bind_parameters(function, calls, values),
+            levels: MOST_LEVELS,
+            calls,
+        };
+        self.work_part(body)
     }
-}
 
-// Reads a script file.
-pub fn read_script(file: &[u8; FILE_BYTES], memory: &mut Memory) {
-    let nodes = rows::node_count(file);
-    rows::read_script(file, memory);
-    uses::note_uses(memory, nodes);
-    handing::note_handed(memory, nodes);
-    depths::find_depths(memory, nodes);
-}
-
-// The totals.
-fn totals(memory: &Memory) -> Typed {
-    Typed {
-        value: memory[TOTALS],
-        is_array: rows::is_above_0(kinds::high(rows::operand_at(memory, 0))),
+    // Works main on the totals and the first of these readings, which take a cell; the new totals. Main is the first of
+    // 32 nested calls.
+    pub fn work_main(&mut self, readings: &[u64; VALUE_WORDS], count: usize) -> Worked {
+        let totals = self.totals();
+        self.begin_delivery(totals);
+        self.take()?;
+        let mut numbers = [Value::number(0); VALUE_WORDS];
+        for (number, bits) in numbers.iter_mut().zip(readings) {
+            *number = Value::number(*bits);
+        }
+        let row = self.make_array(&numbers, count, false)?;
+        let mut values = [totals; VALUE_WORDS];
+        values[1] = row;
+        let main = Place {
+            node: self.bind_parameters(0, MOST_CALLS, &values),
+            levels: MOST_LEVELS,
+            calls: MOST_CALLS,
+        };
+        self.work_part(main)
     }
-}
 
-// How many cells the totals take.
-pub fn totals_cells(memory: &mut Memory) -> u64 {
-    memory[ROOT_COUNT] = 0;
-    let root = totals(memory);
-    cells::push(memory, root);
-    cells::reached(memory)
+    // Reads a script file.
+    pub fn read_script(&mut self, file: &[u8; FILE_BYTES]) {
+        let nodes = node_count(file);
+        self.read_rows(file);
+        self.note_uses(nodes);
+        self.note_handed(nodes);
+        self.find_depths(nodes);
+    }
+
+    // The totals.
+    fn totals(&self) -> Value {
+        Value {
+            bits: self.totals,
+            is_array: 0 < self.high(0),
+        }
+    }
+
+    // How many cells the totals take.
+    pub fn totals_cells(&mut self) -> u64 {
+        self.root_count = 0;
+        self.push(self.totals());
+        self.reached()
+    }
 }

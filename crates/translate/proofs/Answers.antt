@@ -1,7 +1,7 @@
 -- What was written backwards, moved to the front: the code of the script, or 9.
-use Rattle.prelude.specs.Kit.{ℕ, ◌≤◌, ◌+◌, ◌<◌, ◌-◌, suc, arith, ◌≡◌, refl, ◌∙◌, sym, ap, List, [], ◌∷◌, ◌++◌, ℤ, pos}
-use Rattle.prelude.specs.Kit.{length, set, length-set, replicate, take, drop, length-append, length-drop, get_or-set_same}
-use Rattle.prelude.specs.Kit.{drop-cons, length-take-le, drop-set-lt, lt-ltb, le-leb, lt-leb}
+use Rattle.prelude.specs.Kit.{ℕ, ◌≤◌, ◌+◌, ◌<◌, ◌-◌, suc, arith, ◌≡◌, refl, ◌∙◌, ap, List, [], ◌∷◌, ◌++◌, ℤ, pos}
+use Rattle.prelude.specs.Kit.{length, set, length-set, replicate, take, drop, get_or-set_same}
+use Rattle.prelude.specs.Kit.{drop-cons, drop-set-lt, lt-ltb, le-leb, lt-leb}
 use Rattle.semantics.specs.Outcome.{done, stop}
 use Rattle.semantics.specs.Syntax.{Script}
 use Rattle.semantics.specs.Code.{Row}
@@ -44,67 +44,47 @@ module _ {A : Type 0} where
       take (length vs) (drop (n - length vs) (backed l (n + 1) vs)) ≡ vs
   written l n vs h g = ap (take (length vs)) (backed_drop l n vs h g) ∙ take_front vs (drop n l)
 
-  front_long : (k : List A) (at n : ℕ) → at + n ≤ length k → length (take n (drop at k)) ≡ n
-  front_long k at n h = length-take-le n (drop at k) (omega (arith, length-drop at k))
-
-  moved_long : (k x : List A) (at n : ℕ) → at + n ≤ length k → x ≡ take n (drop at k) ++ drop n k →
-      length x ≡ length k
-  moved_long k x at n h e =
-      ap length e ∙ length-append (take n (drop at k)) (drop n k)
-      ∙ rw (front_long k at n h, length-drop n k) (omega arith)
-
-  -- moved, and then cleared behind
-  pub settled : (k x y : List A) (at n : ℕ) (z : A) → at + n ≤ length k →
-      x ≡ take n (drop at k) ++ drop n k → y ≡ take n x ++ replicate (length x - n) z →
-      y ≡ take n (drop at k) ++ replicate (length k - n) z
-  settled k x y at n z h e f =
-      f ∙ ap (λ (m : ℕ). take n x ++ replicate (m - n) z) (moved_long k x at n h e)
-      ∙ ap (λ (r : List A). r ++ replicate (length k - n) z)
-      (ap (take n) e
-      ∙ ap (λ (m : ℕ). take m (take n (drop at k) ++ drop n k)) (sym (front_long k at n h))
-      ∙ take_front (take n (drop at k)) (drop n k))
-
 -- ---- the answer
 
-module _ (fs : Script) (k : List ℕ) (o : List ℤ) (most w : ℕ) (e : most ≡ room k o) {k₁ : List ℕ} {o₁ : List ℤ}
-    (wrote : Wrote k o k₁ o₁ (most + 1) w (code fs)) where
-  pub refused_is : w ≡ 0 → (k₂ : List ℕ) (o₂ : List ℤ) → k₂ ≡ replicate (length k) 0 → o₂ ≡ replicate (length o)
-      (pos 0) →
+module _ (fs : Script) (k : List ℕ) (o : List ℤ) (most : ℕ) (e : most ≡ room k o) {k₁ : List ℕ} {o₁ : List ℤ} where
+  pub refused_is : Wrote k o k₁ o₁ (most + 1) 0 (code fs) → (k₂ : List ℕ) (o₂ : List ℤ) →
+      k₂ ≡ replicate (length k) 0 → o₂ ≡ replicate (length o) (pos 0) →
       ◌≡◌ {A = CodeLeft} (record { answer = stop 9 tt; kinds = k₂; operands = o₂ }) (left_of fs k o)
   unfolding left_of code_fits
-  refused_is z k₂ o₂ f g = rw (lt-leb (length (code fs)) (room k o) (omega (arith, wrote.at, e)), f, g)
+  refused_is wrote k₂ o₂ f g = rw (lt-leb (length (code fs)) (room k o) (omega (arith, wrote.at, e)), f, g)
 
-  pub lines_are : 0 < w → most - (w - 1) ≡ length (code fs)
-  lines_are h = omega (arith, wrote.at)
+  module _ (p : ℕ) (wrote : Wrote k o k₁ o₁ (most + 1) (p + 1) (code fs)) where
+    lines_are : most - p ≡ length (code fs)
+    lines_are = omega (arith, wrote.at)
 
-  kinds_are : 0 < w → take (most - (w - 1)) (drop (w - 1) k₁) ≡ kinds_of (code fs)
-  kinds_are h =
-      let m = map_length (λ (r : Row). r.kind) (code fs) in
-      let a : most - (w - 1) ≡ length (kinds_of (code fs)) = omega (arith, wrote.at, m) in
-      let b : w - 1 ≡ most - length (kinds_of (code fs)) = omega (arith, wrote.at, m) in
-      rw (a, b, wrote.kinds) (written k most (kinds_of (code fs)) (omega (arith, e)) (omega (arith, wrote.at, m)))
+    kinds_are : take (most - p) (drop p k₁) ≡ kinds_of (code fs)
+    kinds_are =
+        let m = map_length (λ (r : Row). r.kind) (code fs) in
+        let a : most - p ≡ length (kinds_of (code fs)) = omega (arith, wrote.at, m) in
+        let b : p ≡ most - length (kinds_of (code fs)) = omega (arith, wrote.at, m) in
+        rw (a, b, wrote.kinds) (written k most (kinds_of (code fs)) (omega (arith, e)) (omega (arith, wrote.at, m)))
 
-  operands_are : 0 < w → take (most - (w - 1)) (drop (w - 1) o₁) ≡ operands_of (code fs)
-  operands_are h =
-      let m = map_length (λ (r : Row). r.operand) (code fs) in
-      let a : most - (w - 1) ≡ length (operands_of (code fs)) = omega (arith, wrote.at, m) in
-      let b : w - 1 ≡ most - length (operands_of (code fs)) = omega (arith, wrote.at, m) in
-      rw (a, b, wrote.operands)
-      (written o most (operands_of (code fs)) (omega (arith, e)) (omega (arith, wrote.at, m)))
+    operands_are : take (most - p) (drop p o₁) ≡ operands_of (code fs)
+    operands_are =
+        let m = map_length (λ (r : Row). r.operand) (code fs) in
+        let a : most - p ≡ length (operands_of (code fs)) = omega (arith, wrote.at, m) in
+        let b : p ≡ most - length (operands_of (code fs)) = omega (arith, wrote.at, m) in
+        rw (a, b, wrote.operands)
+        (written o most (operands_of (code fs)) (omega (arith, e)) (omega (arith, wrote.at, m)))
 
-  pub accepted_is : 0 < w → (k₂ : List ℕ) (o₂ : List ℤ) →
-      k₂ ≡ take (most - (w - 1)) (drop (w - 1) k₁) ++ replicate (length k₁ - (most - (w - 1))) 0 →
-      o₂ ≡ take (most - (w - 1)) (drop (w - 1) o₁) ++ replicate (length o₁ - (most - (w - 1))) (pos 0) →
-      ◌≡◌ {A = CodeLeft} (record { answer = done (most - (w - 1)) tt; kinds = k₂; operands = o₂ }) (left_of fs k o)
-  unfolding left_of code_fits
-  accepted_is h k₂ o₂ f g =
-      rw (
-        le-leb (length (code fs)) (room k o) (omega (arith, wrote.at, e)),
-        f,
-        g,
-        kinds_are h,
-        operands_are h,
-        wrote.long_kinds,
-        wrote.long_operands,
-        lines_are h,
-      )
+    pub accepted_is : (k₂ : List ℕ) (o₂ : List ℤ) →
+        k₂ ≡ take (most - p) (drop p k₁) ++ replicate (length k₁ - (most - p)) 0 →
+        o₂ ≡ take (most - p) (drop p o₁) ++ replicate (length o₁ - (most - p)) (pos 0) →
+        ◌≡◌ {A = CodeLeft} (record { answer = done (most - p) tt; kinds = k₂; operands = o₂ }) (left_of fs k o)
+    unfolding left_of code_fits
+    accepted_is k₂ o₂ f g =
+        rw (
+          le-leb (length (code fs)) (room k o) (omega (arith, wrote.at, e)),
+          f,
+          g,
+          kinds_are,
+          operands_are,
+          wrote.long_kinds,
+          wrote.long_operands,
+          lines_are,
+        )

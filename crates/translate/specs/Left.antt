@@ -1,16 +1,14 @@
 -- What the translation of an accepted script leaves.
-use Rattle.std.specs.Prelude.{◌≡◌, cond, List, ℕ, ℤ, pos, length, replicate}
+use Rattle.std.specs.Prelude.{◌≡◌, cond, List, ℕ, ℤ, pos, length, replicate, Option, Some, None}
 use Rattle.semantics.specs.Outcome.{Outcome, done, stop}
 use Rattle.semantics.specs.Syntax.{Script}
 use Rattle.semantics.specs.Annotate.{code}
 use Rattle.semantics.specs.Calls.{room, code_fits, code_kinds, code_operands}
-use Rattle.translate.specs.declared.Laid.{Laid}
-use Rattle.translate.specs.declared.Laid.TheVariants.{Lines, TooLong}
 
 -- document 01's number and value for each case: how many lines, or 9
-abbrev pub laid_outcome : Laid → Outcome (Unit {0}) ℕ
-laid_outcome (Lines n) = done n tt
-laid_outcome TooLong = stop 9 tt
+abbrev pub laid_outcome : Option ℕ → Outcome (Unit {0}) ℕ
+laid_outcome (Some n) = done n tt
+laid_outcome None = stop 9 tt
 
 pub record CodeLeft : Type 0 where
   pub answer : Outcome (Unit {0}) ℕ

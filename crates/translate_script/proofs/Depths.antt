@@ -1,45 +1,8 @@
--- Laws of the table of depths: names noted one by one, functions one by one.
-use Rattle.prelude.specs.Kit.{ℕ, ◌≤◌, ◌+◌, ◌<◌, ◌-◌, ◌*◌, arith, ℕ_discrete, ◌≡◌, refl, ◌∙◌, ap, List, length, get_or}
-use Rattle.prelude.specs.Kit.{set, length-set, get_or-set_other, get_or-set_same}
+-- Laws of the table of depths, written function by function.
+use Rattle.prelude.specs.Kit.{ℕ, ◌≤◌, ◌+◌, ◌<◌, ◌*◌, arith, ℕ_discrete, ◌≡◌, refl, ◌∙◌, ap, List, length, get_or}
 use Rattle.semantics.specs.Syntax.{Script, function_at}
 use Rattle.semantics.specs.Annotate.{depths_of}
-use Rattle.translate_script.specs.Depths.{NotedTo, Noted, DepthsFrom}
-
-module _ {f : ℕ} {depths table : List ℕ} where
-  pub noted_none : NotedTo 0 f depths table table
-  noted_none = record {
-    long = refl;
-    there = λ x h l. absurd (omega arith);
-    before = λ i h. refl;
-    after = λ i h. refl;
-  }
-
-  -- a table that is too short for all functions
-  pub noted_short : length table < 8192 → Noted f depths table table
-  noted_short h = record {
-    long = refl;
-    there = λ x k l. absurd (omega arith);
-    before = λ i k. refl;
-    after = λ i k. refl;
-  }
-
-  -- the next name's depth, at its place of the table
-  pub noted_one : {n : ℕ} {table' : List ℕ} → NotedTo n f depths table table' → 256 * f + n < length table' →
-      NotedTo (n + 1) f depths table (set table' (256 * f + n) (get_or depths n 0))
-  noted_one {n} {table'} h l = record {
-    long = length-set table' (256 * f + n) (get_or depths n 0) ∙ h.long;
-    there = λ x k m. one x k m (ℕ_discrete x n);
-    before = λ i k. get_or-set_other table' (256 * f + n) i (get_or depths n 0) 0 (λ e. omega arith) ∙ h.before i k;
-    after = λ i k. get_or-set_other table' (256 * f + n) i (get_or depths n 0) 0 (λ e. omega arith) ∙ h.after i
-        (omega arith);
-  }
-    where
-      one : (x : ℕ) → x < n + 1 → 8192 ≤ length table → Dec (x ≡ n) →
-          get_or (set table' (256 * f + n) (get_or depths n 0)) (256 * f + x) 0 ≡ get_or depths x 0
-      one x k m (yes e) = rw e (get_or-set_same table' (256 * f + n) (get_or depths n 0) 0 l)
-      one x k m (no e) =
-          get_or-set_other table' (256 * f + n) (256 * f + x) (get_or depths n 0) 0 (λ z. e (omega arith))
-          ∙ h.there x (omega (arith, e)) m
+use Rattle.translate_script.specs.Depths.{Noted, DepthsFrom}
 
 -- ---- functions, from the last to the first
 

@@ -1,5 +1,5 @@
 -- Laws of the code of the functions of an accepted script, from the last to the first.
-use Rattle.prelude.specs.Kit.{ℕ, ◌≤◌, ◌+◌, ◌<◌, ◌-◌, suc, zero, arith, ◌≡◌, refl, ◌∙◌, sym, ap, fun_ext, List, [], ◌∷◌}
+use Rattle.prelude.specs.Kit.{ℕ, ◌≤◌, ◌<◌, ◌-◌, suc, zero, arith, ◌≡◌, refl, ◌∙◌, sym, ap, fun_ext, List, [], ◌∷◌}
 use Rattle.prelude.specs.Kit.{◌++◌, ℤ, length, get_or, drop, drop-cons}
 use Rattle.semantics.specs.Syntax.{Function, Script, function_at, no_function}
 use Rattle.semantics.specs.Code.{Row}

@@ -1,8 +1,15 @@
 -- Laws of the table of places: functions one by one, from the last to the first.
 use Rattle.prelude.specs.Kit.{ℕ, ◌≤◌, ◌+◌, ◌<◌, ◌-◌, arith, ℕ_discrete, ◌≡◌, refl, ◌∙◌, List, length, get_or, set}
 use Rattle.prelude.specs.Kit.{length-set, get_or-set_other, get_or-set_same}
+use Rattle.std.specs.Prelude.{Option, Some, None, SomeIff}
 use Rattle.semantics.specs.Syntax.{Script}
+use Rattle.translate_script.specs.Script.{place_at}
 use Rattle.translate_script.specs.Places.{rows_from, PlacesFrom}
+
+-- the position before a place, if there is one
+pub place_back : (r : Option ℕ) (v : ℕ) → SomeIff r (1 ≤ v) (v - 1) → place_at r ≡ v
+place_back (Some p) v h = omega arith
+place_back None v h = omega (arith, h)
 
 module _ {fs : Script} {w : ℕ} {starts : List ℕ} where
   pub places_none : (n : ℕ) → length fs ≤ n → PlacesFrom n fs w starts starts

@@ -24,21 +24,17 @@ fn put_parameters(
     operands: &[u8],
     at: usize,
     count: u8,
-    w: usize,
+    mut w: usize,
 ) -> usize
     requires { Parts kinds.now operands.now × ((at ≤ 1024) × ((count ≤ 8) × Room ks.old os.old w)) }
     ensures { Wrote ks.old os.old ks.new os.new w result
         (parameter_rows (parameters_at kinds.now operands.now at count) 0) }
 {
-    let mut v = w;
-    let mut i = count as usize;
-    while 0 < i {
-        i = i - 1;
+    for i in (0..count as usize).rev() {
         let d = script_read::high_at(kinds, operands, at + i, Place::Parameter);
-        let n = annotate_rows::put_row(ks, os, v, kinds::PARAMETER, i as u32 + 256 * (d as u32));
-        v = n;
+        w = annotate_rows::put_row(ks, os, w, kinds::PARAMETER, i as u32 + 256 * u32::from(d));
     }
-    v
+    w
 }
 
 // The rows of the function at a node before those of its tree.
@@ -57,13 +53,8 @@ fn put_head(
     let count = script_read::low_at(kinds, operands, at, Place::Function);
     let result = script_read::high_at(kinds, operands, at, Place::Function);
     let v = put_parameters(ks, os, kinds, operands, at + 1, count, w);
-    annotate_rows::put_row(
-        ks,
-        os,
-        v,
-        kinds::FUNCTION,
-        count as u32 + 256 * (result as u32),
-    )
+    let n = u32::from(count) + 256 * u32::from(result);
+    annotate_rows::put_row(ks, os, v, kinds::FUNCTION, n)
 }
 
 // The depths of the names of function f, but 0 for those of its n parameters that it borrows.
@@ -72,9 +63,7 @@ fn owned_depths(depths: &[u8; 256], borrowing: &[[bool; 8]; 32], f: usize, n: us
     ensures { depth_in result ≡ owned_of borrowing.now f n (depth_in depths.now) }
 {
     let mut owned = *depths;
-    let mut i = n;
-    while 0 < i {
-        i = i - 1;
+    for i in 0..n {
         if plain_rows::is_borrowed(borrowing, f as u8, i) {
             owned[i] = 0;
         }
@@ -140,19 +129,14 @@ fn note_depths(table: &mut [u8], f: usize, depths: &[u8; 256])
     requires { f < 32 }
     ensures { Noted f depths.now table.old table.new }
 {
-    if table.len() < 8192 {
-        return;
-    }
-    let first = 256 * f;
-    let mut x: usize = 0;
-    while x < 256 {
-        table[first + x] = depths[x];
-        x = x + 1;
+    if 8192 <= table.len() {
+        let first = 256 * f;
+        table[first..first + 256].copy_from_slice(depths);
     }
 }
 
 // Writes the code of a script before place w of the two code arrays, and the depths of its names in a table; the answer
-// is the place of the first row, or 0 if the code is too long. Before, `starts` has where the functions stand in the
+// is the position of the first row, if the code is not too long. Before, `starts` has where the functions stand in the
 // file; after, the places of their first rows.
 pub fn script_code(
     kinds: &[u8],
@@ -163,7 +147,7 @@ pub fn script_code(
     ks: &mut [u8],
     os: &mut [i64],
     w: usize,
-) -> usize
+) -> Option<usize>
     requires { Translatable kinds.now operands.now functions starts.old × Room ks.old os.old w }
     ensures coded_by { Coded_by (script kinds.now operands.now functions 0)
         ks.old os.old ks.new os.new w result }
@@ -179,18 +163,15 @@ pub fn script_code(
         kinds, operands, starts, functions, &results, &mut rows, &mut notes,
     );
     let mut v = w;
-    let mut i = functions;
-    while 0 < i {
-        i = i - 1;
-        let at = starts[i];
+    for i in (0..functions).rev() {
         let mut depths = [0u8; 256];
-        let u = function_code(
+        v = function_code(
             kinds,
             operands,
             &results,
             &borrowing,
             i,
-            at,
+            starts[i],
             &mut rows,
             &mut notes,
             &mut depths,
@@ -198,9 +179,8 @@ pub fn script_code(
             os,
             v,
         );
-        starts[i] = u;
+        starts[i] = v;
         note_depths(table, i, &depths);
-        v = u;
     }
-    v
+    v.checked_sub(1)
 }

@@ -1,6 +1,7 @@
 -- Numbers of more bytes from numbers of fewer.
 use Rattle.prelude.specs.Kit.{ℕ, ◌≤◌, ◌+◌, ◌<◌, ◌-◌, suc, zero, ◌*◌, ◌^◌, arith, add-zero, add-suc, ◌≡◌, refl, sym}
-use Rattle.prelude.specs.Kit.{List, length, get_or, get_or-eq_default}
+use Rattle.prelude.specs.Kit.{List, [], ◌∷◌, length, get_or, get_or-eq_default, w64}
+use Rattle.std.specs.Int.{w16, from_le_bytes}
 use Rattle.semantics.specs.Number.{bytes_at}
 
 -- past the end all bytes are 0
@@ -45,23 +46,19 @@ module _ (l : List ℕ) (i : ℕ) where
       let q : r < 256 ^ n = rw o at m in
       (omega arith, omega arith)
 
-  pub two : (a b : ℕ) → a ≡ get_or l i 0 → b ≡ get_or l (i + 1) 0 → a + 256 * b ≡ bytes_at 2 l i
+module _ (l : List ℕ) (i : ℕ) where
+  pub two : from_le_bytes w16 (get_or l i 0 ∷ get_or l (i + 1) 0 ∷ []) ≡ bytes_at 2 l i
   unfolding bytes_at
-  two a b e f = omega arith
+  two = omega arith
 
-  pub four : (a b c d : ℕ) → a ≡ get_or l i 0 → b ≡ get_or l (i + 1) 0 → c ≡ get_or l (i + 2) 0 → d ≡ get_or l (i + 3) 0 →
-      a + 256 * b + 65536 * c + 16777216 * d ≡ bytes_at 4 l i
+  pub eight : from_le_bytes w64 (get_or l i 0 ∷ get_or l (i + 1) 0 ∷ get_or l (i + 2) 0 ∷ get_or l (i + 3) 0
+      ∷ get_or l (i + 4) 0 ∷ get_or l (i + 5) 0 ∷ get_or l (i + 6) 0 ∷ get_or l (i + 7) 0 ∷ []) ≡ bytes_at 8 l i
   unfolding bytes_at
-  four a b c d e f g h =
-      let p : i + 2 ≡ i + 1 + 1 = omega arith in
-      let q : i + 3 ≡ i + 1 + 1 + 1 = omega arith in
-      let r : c ≡ get_or l (i + 1 + 1) 0 = rw (← p) g in
-      let s : d ≡ get_or l (i + 1 + 1 + 1) 0 = rw (← q) h in
-      omega arith
-
-  pub eight : (a b : ℕ) → a ≡ bytes_at 4 l i → b ≡ bytes_at 4 l (i + 4) → a + 4294967296 * b ≡ bytes_at 8 l i
-  unfolding bytes_at
-  eight a b e f =
-      let p : i + 4 ≡ i + 1 + 1 + 1 + 1 = omega arith in
-      let g : b ≡ bytes_at 4 l (i + 1 + 1 + 1 + 1) = rw (← p) f in
-      omega arith
+  eight =
+      let e : i + 1 + 1 ≡ i + 2 = omega arith in
+      let f : i + 2 + 1 ≡ i + 3 = omega arith in
+      let g : i + 3 + 1 ≡ i + 4 = omega arith in
+      let h : i + 4 + 1 ≡ i + 5 = omega arith in
+      let j : i + 5 + 1 ≡ i + 6 = omega arith in
+      let k : i + 6 + 1 ≡ i + 7 = omega arith in
+      simp (e, f, g, h, j, k) (omega arith)

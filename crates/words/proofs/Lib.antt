@@ -1,4 +1,4 @@
 -- The laws that the proofs of `words` share.
-pub mod Signed
+pub mod Exact
 pub mod Bytes
 pub mod Packing

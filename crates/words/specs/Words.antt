@@ -1,16 +1,14 @@
 -- What the answers of this crate's functions say, in the terms of the definitions.
-use Rattle.std.specs.Prelude.{◌≡◌, cond, ℕ, ◌<◌, ◌^◌, ℤ}
+use Rattle.std.specs.Prelude.{◌≡◌, cond, ℕ, ◌<◌, ◌^◌, ℤ, Option, Some, None}
 use Rattle.semantics.specs.Outcome.{Outcome, done, stop}
 use Rattle.semantics.specs.Number.{fits}
 use Rattle.semantics.specs.Calls.{packed}
-use Rattle.words.specs.declared.Exact.{Exact}
-use Rattle.words.specs.declared.Exact.TheVariants.{Value, Overflow}
 use Rattle.words.specs.declared.Answer.{Answer}
 
 -- document 01's number and value for each case: a value, or 24
-abbrev pub exact_outcome : Exact → Outcome (Unit {0}) ℤ
-exact_outcome (Value z) = done z tt
-exact_outcome Overflow = stop 24 tt
+abbrev pub exact_outcome : Option ℤ → Outcome (Unit {0}) ℤ
+exact_outcome (Some z) = done z tt
+exact_outcome None = stop 24 tt
 
 -- an exact result where it is in 64 bits, and else 24
 unfoldable pub checked : ℤ → Outcome (Unit {0}) ℤ

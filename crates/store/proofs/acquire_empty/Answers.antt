@@ -6,11 +6,12 @@ use Rattle.store.proofs.acquire_empty.Goals as goal
 
 pub returns-then-not-is_cell : goal.returns-then-not-is_cell
 returns-then-not-is_cell c =
-    with_remaining _ _ _ _ _ _ (none_acquired _ _ _ _ [] (told_gone c.is_cell.ensures c.if-not-is_cell.true))
+    with_remaining _ _ _ _ _ _
+    (none_acquired _ _ _ _ [] _ c.in_ok-c.ensures.value (told_gone c.is_cell.ensures c.if-not-is_cell.true))
 
 pub returns : goal.returns
 returns c =
-    with_remaining _ _ _ _ _ _ (rw c.one_fewer.ensures (one_acquired _ _ _ _ (record {
+    with_remaining _ _ _ _ _ _ (rw c.saturating_sub.ensures (one_acquired _ _ _ _ _ c.in_ok-c.ensures.value (record {
       long = c.clear_slots.auto.slots;
       slots_cleared = c.clear_slots.ensures;
       heads_written = c.write_head.ensures;

@@ -1,0 +1,2 @@
+-- The modules of `answers`' specs.
+pub mod Numbers

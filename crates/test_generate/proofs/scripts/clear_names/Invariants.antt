@@ -1,9 +1,0 @@
--- `test_generate::scripts::clear_names` ends: the names left fall.
-use Rattle.prelude.specs.Kit.{◌-◌, ◌≤◌}
-use Rattle.test_generate.proofs.scripts.clear_names.Given as goal
-
-abbrev pub invariant-loop-i : goal.invariant-loop-i
-invariant-loop-i l = l.i ≤ 8
-
-abbrev pub decreases-loop-i : goal.decreases-loop-i
-decreases-loop-i l = 8 - l.i

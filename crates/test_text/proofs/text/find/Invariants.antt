@@ -1,9 +1,0 @@
--- `test_text::text::find` meets its contract.
-use Rattle.std.proofs.Common.{◌-◌, ◌≤◌, length, min}
-use Rattle.test_text.proofs.text.find.Given as goal
-
-abbrev pub invariant-loop-i : goal.invariant-loop-i
-invariant-loop-i l = min l.at (length l.text) ≤ l.i
-
-abbrev pub decreases-loop-i : goal.decreases-loop-i
-decreases-loop-i l = length l.text - l.i
