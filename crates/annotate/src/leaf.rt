@@ -1,5 +1,5 @@
 // A line without trees, walked backwards.
-ghost use Rattle.std.specs.Prelude.{◌≡◌, true, ◌+◌, ◌*◌, ◌<◌, length};
+ghost use Rattle.std.specs.Prelude.{◌≡◌, true, ◌+◌, ◌*◌, ◌<◌};
 ghost use Rattle.semantics.specs.Borrow.{borrows};
 ghost use Rattle.plain_rows.specs.Plain.{plain};
 ghost use Rattle.plain_rows.specs.Parts.{depth_in};
@@ -74,7 +74,7 @@ pub fn walk_leaf(
             take_handed(operands, rows, notes, cur, p, name, count, live);
         }
         Line::Literal { name, depth, count } => {
-            let n = name as u32 + 256 * (count as u32) + 65536 * (depth as u32);
+            let n = u32::from_le_bytes([name, count, depth, 0]);
             *at = put_handing(
                 ks,
                 os,

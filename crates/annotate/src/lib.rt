@@ -2,7 +2,7 @@
 // arrays. `cur` holds the row of each name's last use before the present one: what a tree uses is read from it.
 #![tactic(auto, using(annotate_rows::proofs::Rows::lower))]
 
-ghost use Rattle.std.specs.Prelude.{◌≡◌, true, ◌+◌, ◌-◌, ◌<◌, ◌≤◌, length};
+ghost use Rattle.std.specs.Prelude.{◌≡◌, true, ◌+◌, ◌-◌, ◌<◌, ◌≤◌};
 ghost use Rattle.semantics.specs.Borrow.{borrows};
 ghost use Rattle.plain_rows.specs.Plain.{plain, meant};
 ghost use Rattle.plain_rows.specs.Parts.{depth_in};
@@ -31,7 +31,7 @@ struct Span {
 }
 
 // The tree whose end line is at row e: its rows, and the names live before it.
-#[cycle(walk_if_walk_loop_walk_tree)]
+#[cycle(walk)]
 pub fn walk_tree(
     ks: &mut [u8],
     os: &mut [i64],
@@ -46,7 +46,7 @@ pub fn walk_tree(
     at: &mut usize,
     after: [bool; 256],
 ) -> [bool; 256]
-    requires { (e ≤ 4096) × (length cur.old ≡ 256) × Room ks.old os.old at.old }
+    requires { (e ≤ 4096) × Room ks.old os.old at.old }
     ensures { Walks
         (tree_walk (plain operands.now rows.now notes.now)
         (borrows table.now) (depth_in depths.now) levels e)
@@ -98,7 +98,7 @@ pub fn walk_tree(
 }
 
 // An if's trees, its second and its first, and its own rows. A branch opens by releasing what only the other one uses.
-#[cycle(walk_if_walk_loop_walk_tree)]
+#[cycle(walk)]
 fn walk_if(
     ks: &mut [u8],
     os: &mut [i64],
@@ -165,7 +165,7 @@ fn walk_if(
 }
 
 // A loop's tree and its own rows. Another pass may come, so what the tree uses from outside is live after it.
-#[cycle(walk_if_walk_loop_walk_tree)]
+#[cycle(walk)]
 fn walk_loop(
     ks: &mut [u8],
     os: &mut [i64],

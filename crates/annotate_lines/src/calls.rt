@@ -166,7 +166,7 @@ pub fn put_call(
 {
     let s = release_read(ks, os, depths, operands, rows, table, f, at, m, x, after, w);
     let t = put_atoms(ks, os, operands, rows, at, m, s);
-    let u = put_row(ks, os, t, kinds::CALL, x as u32 + 256 * (f as u32));
+    let u = put_row(ks, os, t, kinds::CALL, u32::from_le_bytes([x, f, 0, 0]));
     let mut later = *after;
     join_read(operands, rows, table, f, at, m, &mut later);
     retain_owned(

@@ -102,12 +102,8 @@ fn open_pass(
 fn loop_operand(x: u8, kind: u8, y: u8, z: u8) -> u32
     ensures { result ≡ x + 256 * packed_names (of_loop (loop_of kind) y z) }
 {
-    let n = x as u32 + 256 * (y as u32);
-    if kind == kinds::REDUCE {
-        n + 65536 * (z as u32)
-    } else {
-        n
-    }
+    let third = if kind == kinds::REDUCE { z } else { 0 };
+    u32::from_le_bytes([x, y, third, 0])
 }
 
 // The kind of a loop's row.

@@ -1,6 +1,6 @@
 // Writes annotated rows straight into the two lent arrays, towards their front.
-// A place w says that the rows from position w - 1 on are written; at place 0 a row did not fit. It is a number and no
-// Option: a row before place 0 or 1 leaves the arrays as they are, so no writer asks whether the one before it had room.
+// A place w says that the rows from position w - 1 on are written; at place 0 a row did not fit. It is a number and
+// no Option: a row before place 0 or 1 leaves the arrays as they are, so no writer asks whether the one before fitted.
 #![tactic(auto)]
 
 ghost use Rattle.std.specs.Prelude.{◌≡◌, ◌&&◌, not, [], ◌∷◌, ◌-◌, ◌<◌, ◌≤◌, ltb};

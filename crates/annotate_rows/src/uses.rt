@@ -26,8 +26,8 @@ fn is_name(a: Atom, i: usize) -> bool
     matches!(a, Atom::Name(x) if x as usize == i)
 }
 
-// Releases, lowest first, of the names below n that are a's or used past a row, arrays and not live. The loop is that of
-// `put_releases` with another test, which given as a closure would want a contract longer than the loop.
+// Releases, lowest first, of the names below n that are a's or used past a row, arrays and not live. The loop is
+// that of `put_releases` with another test, which given as a closure would want a contract longer than the loop.
 pub fn put_used(
     ks: &mut [u8],
     os: &mut [i64],

@@ -159,7 +159,8 @@ module _ (F : Plain) (f : ℕ) where
       let h : suc k + n ≡ suc (k + n) = omega arith in
       rw h (omega (
         arith,
-        with_few (makes_link l (get_or rows r 0)) (link_in f l k (get_or rows r 0)) (links_from rows f (k + n) (r + 1) l k),
+        with_few (makes_link l (get_or rows r 0)) (link_in f l k (get_or rows r 0))
+            (links_from rows f (k + n) (r + 1) l k),
         over_call k n (r + 1) l Q (omega arith),
       ))
 

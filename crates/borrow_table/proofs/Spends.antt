@@ -1,6 +1,7 @@
 -- What the rows of a function spend, by the table: first as they are read, then as the tree that stands in them.
 use Rattle.prelude.specs.Kit.{ℕ, ◌+◌, ◌<◌, suc, zero, ◌*◌, ◌%◌, ◌/◌, arith, dec_lt, ℕ_discrete, true, false, Bool}
-use Rattle.prelude.specs.Kit.{◌&&◌, not, ◌||◌, and-false, ◌≡◌, refl, ◌∙◌, sym, ap, List, ◌∷◌, eqb, get_or, ne_eqb, lt-ltb}
+use Rattle.prelude.specs.Kit.{◌&&◌, not, ◌||◌, and-false, ◌≡◌, refl, ◌∙◌, sym, ap, List, ◌∷◌, eqb, get_or}
+use Rattle.prelude.specs.Kit.{ne_eqb, lt-ltb}
 use Rattle.prelude.specs.Kit.{eq-eqb, le-ltb}
 use Rattle.semantics.specs.Basics.{with_if}
 use Rattle.semantics.specs.Kinds.{Borrowing}

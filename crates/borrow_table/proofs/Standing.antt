@@ -1,6 +1,7 @@
 -- Where a tree stands in plain code, its rows spend what the tree spends.
 use Rattle.prelude.specs.Kit.{ℕ, ◌+◌, ◌<◌, ◌-◌, suc, zero, ◌%◌, ◌/◌, arith, dec_lt, true, false, Bool, cond, ◌&&◌, not}
-use Rattle.prelude.specs.Kit.{◌||◌, or-false, or_assoc, ◌≡◌, refl, ◌∙◌, sym, ap, subst, List, eqb, length, get_or, ne_eqb}
+use Rattle.prelude.specs.Kit.{◌||◌, or-false, or_assoc, ◌≡◌, refl, ◌∙◌, sym, ap, subst, List, eqb, length}
+use Rattle.prelude.specs.Kit.{get_or, ne_eqb}
 use Rattle.prelude.specs.Kit.{lt-ltb, le-ltb}
 use Rattle.semantics.specs.Basics.{with_if}
 use Rattle.semantics.specs.Kinds.{operation, index, replicate, Borrowing, picked, leaf_hands, loop_hands}

@@ -1,6 +1,7 @@
 -- The rounds of the table of borrowed parameters, over links. A link whose place is not borrowed takes its name's entry
 -- away; what is taken away is in no table that the links leave as it is.
-use Rattle.std.specs.Prelude.{ℕ, ◌+◌, ◌*◌, ◌/◌, ◌%◌, ◌<◌, ◌≤◌, ◌≡◌, Bool, true, false, cond, not, ◌&&◌, List, [], ◌∷◌, eqb, get_or, set}
+use Rattle.std.specs.Prelude.{ℕ, ◌+◌, ◌*◌, ◌/◌, ◌%◌, ◌<◌, ◌≤◌, ◌≡◌, Bool, true, false, cond, not, ◌&&◌}
+use Rattle.std.specs.Prelude.{List, [], ◌∷◌, eqb, get_or, set}
 use Rattle.semantics.specs.Borrow.{Table, borrows}
 use Rattle.soundness.proofs.borrowing.Rounds.{Shaped}
 use Rattle.borrow_table.specs.Gathered.{passed}

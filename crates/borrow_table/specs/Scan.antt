@@ -1,7 +1,8 @@
 -- One function's plain rows read once, row by row: which names below 8 it hands over outside of calls, and a link for
 -- each of them that it passes to a function. The reader keeps the row of the line whose atoms it is at, and how many
 -- of them are still to come.
-use Rattle.std.specs.Prelude.{◌≡◌, Bool, false, cond, not, ◌&&◌, ◌||◌, List, [], ◌++◌, ℕ, zero, suc, ◌+◌, ◌-◌, ◌/◌, ◌%◌, ◌<◌, eqb, ltb, get_or, length, take}
+use Rattle.std.specs.Prelude.{◌≡◌, Bool, false, cond, not, ◌&&◌, ◌||◌, List, [], ◌++◌, ℕ, zero, suc}
+use Rattle.std.specs.Prelude.{◌+◌, ◌-◌, ◌/◌, ◌%◌, ◌<◌, eqb, ltb, get_or, length, take}
 use Rattle.semantics.specs.Basics.{with_if}
 use Rattle.borrow_table.specs.Gathered.{link}
 

@@ -24,7 +24,6 @@ pub fn borrow_table(
 ) -> [[bool; 8]; 32]
     requires translatable { Translatable kinds.now operands.now functions starts.now }
     requires resulting_by { Resulting_by (script kinds.now operands.now functions 0) results.now }
-    requires rows_len { (length rows.old ≡ 2048) × (length notes.old ≡ 2048) }
     ensures borrowed_by { Borrowed_by (script kinds.now operands.now functions 0) result }
     ensures rows_len_2 { (length rows.new ≡ 2048) × (length notes.new ≡ 2048) }
 {

@@ -40,9 +40,11 @@ fn note(gone: &mut [u8; 256], m: usize, link: u32) -> usize
 
 // One round: every link is followed, and then those that lead to the entries that were taken away; whether there were
 // any. The links that lead to one place are chained: heads has the last one's number, and after the one's before each.
+// They are numbered from 1, and 0 is no link: a number and no Option, since a chain's entry is kept in two bytes. All
+// lists are arrays with room for the most there can be: fixed memory.
 fn rework(t: &mut [[bool; 8]; 32], links: &Links, after: &mut [u16; plain_rows::ROWS]) -> bool
     requires shaped { Shaped t.old }
-    requires n_bound { (links.now.count ≤ 1024) × ((length links.now.list ≡ 1024) × (length after.old ≡ 2048)) }
+    requires n_bound { links.now.count ≤ 1024 }
     ensures reworked { Reworked (take links.now.count links.now.list) t.old t.new result }
     ensures after_len { length after.new ≡ 2048 }
 {
@@ -88,7 +90,7 @@ pub fn work_out(
     after: &mut [u16; plain_rows::ROWS],
 ) -> [[bool; 8]; 32]
     requires shaped { Shaped t }
-    requires n_bound { (links.now.count ≤ 1024) × ((length links.now.list ≡ 1024) × (length after.old ≡ 2048)) }
+    requires n_bound { links.now.count ≤ 1024 }
     ensures settled { Settled (take links.now.count links.now.list) t result }
     ensures after_len { length after.new ≡ 2048 }
 {

@@ -3,7 +3,7 @@
 ghost use Rattle.std.specs.Prelude.{◌≡◌, ◌+◌, ◌<◌, ◌≤◌, ◌%◌, ◌/◌, length};
 ghost use Rattle.borrow_table.specs.Scan.{atoms_after, atoms_by, hands_by, link_in, links_in, Scanned};
 
-// The links of the functions that were read: the first `count` of the list.
+// The links of the functions that were read: the first `count` of the list, which has room for all: fixed memory.
 #[derive(Drop)]
 pub struct Links {
     pub list: [u32; 1024],
@@ -54,7 +54,6 @@ fn link_in(f: usize, line: u32, more: usize, v: u32) -> u32
 pub fn gather(rows: &plain_rows::Rows, q: usize, f: usize, links: &mut Links) -> [bool; 8]
     requires q_bound { q ≤ 2048 }
     requires f_bound { f < 32 }
-    requires links_len { length links.old.list ≡ 1024 }
     requires q_bound_2 { links.old.count + length (links_in rows.now f q) ≤ 1024 }
     ensures { Scanned rows.now f q links.old.count links.old.list result links.new.list links.new.count }
 {
@@ -72,7 +71,7 @@ pub fn gather(rows: &plain_rows::Rows, q: usize, f: usize, links: &mut Links) ->
         if 8 <= v {
             continue;
         }
-        let kind = (line % 256) as u8;
+        let [kind, ..] = line.to_le_bytes();
         if kind == kinds::CALL {
             links.list[links.count] = link_in(f, line, left, v);
             links.count += 1;

@@ -122,7 +122,7 @@ pub fn engine_save(
             call_store::tell(ended, kinds, operands)
         }
         Err(answer) => {
-            saved.fill(0);
+            clearing::clear_from(saved, 0, 0);
             answer
         }
     }

@@ -1,7 +1,7 @@
 // The plain code of the functions of a script: what their parameters mean, and where their trees stand.
 #![tactic(auto)]
 
-ghost use Rattle.std.specs.Prelude.{◌≡◌, ◌≤◌, length, replicate};
+ghost use Rattle.std.specs.Prelude.{◌≡◌, ◌≤◌, replicate};
 ghost use Rattle.semantics.specs.File.{script};
 ghost use Rattle.script_read.specs.Told.{Parts};
 ghost use Rattle.flatten_functions.specs.Read.{parameters_at, Binds, Unbound, Fitting, FunctionLaid};
@@ -45,7 +45,6 @@ pub fn lay_function(
     depths: &mut [u8; 256],
 ) -> usize
     requires fitting { Fitting kinds.now operands.now results.now at }
-    requires rows_len { (length rows.old ≡ 2048) × (length notes.old ≡ 2048) }
     requires last_value { (last.old ≡ replicate 256 0) × (depths.old ≡ replicate 256 0) }
     ensures { FunctionLaid kinds.now operands.now results.now at
         rows.new notes.new last.new depths.new result }

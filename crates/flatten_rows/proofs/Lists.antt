@@ -182,7 +182,8 @@ module _ {w : List ℕ} {res : ℕ → ℕ} {R : ℕ → Expr} {m at : ℕ} {μ 
 -- ---- the line
 
 pub atoms_placed : (w rows : List ℕ) (at : ℕ) (vs : List ℕ) (j m : ℕ) →
-    ((i : ℕ) → i < m → get_or rows (at + i) 0 ≡ get_or vs (j + i) 0) → atoms_at w rows at m ≡ placed_all w (firsts vs j m)
+    ((i : ℕ) → i < m → get_or rows (at + i) 0 ≡ get_or vs (j + i) 0) →
+    atoms_at w rows at m ≡ placed_all w (firsts vs j m)
 unfolding atoms_at firsts
 atoms_placed w rows at vs j zero h = refl
 atoms_placed w rows at vs j (suc m) h =

@@ -236,7 +236,8 @@ module _ (w : List ℕ) (res : ℕ → ℕ) (kind low high : ℕ) (vs : List ℕ
 
         to₄ : RowsAgree X₄ F (q + 1 + m) rt.after.p
         to₄ =
-            agrees_from (q + 1 + m) (agrees_back rt.after.p rt.after.p g held₄ (omega arith) (omega arith)) (omega arith)
+            agrees_from (q + 1 + m) (agrees_back rt.after.p rt.after.p g held₄ (omega arith) (omega arith))
+            (omega arith)
 
         at_tree : note F.notes (q + 1 + m) ≡ q + 1 + m
         at_tree =

@@ -1,6 +1,7 @@
 -- Laws of the descent, one for each of its functions: the room for each part, and what is made of all of them.
-use Rattle.prelude.specs.Kit.{pos, ℕ, ◌≤◌, ◌+◌, ◌<◌, arith, ℕ_discrete, cond, ◌≡◌, refl, ◌∙◌, sym, ap, subst, fun_ext, List}
-use Rattle.prelude.specs.Kit.{[], ◌∷◌, eqb, ℤ, length, get_or, set, length-set, get_or-set_other, get_or-set_same, ne_eqb}
+use Rattle.prelude.specs.Kit.{pos, ℕ, ◌≤◌, ◌+◌, ◌<◌, arith, ℕ_discrete, cond, ◌≡◌, refl, ◌∙◌, sym, ap, subst, fun_ext}
+use Rattle.prelude.specs.Kit.{List, [], ◌∷◌, eqb, ℤ, length, get_or, set, length-set, get_or-set_other}
+use Rattle.prelude.specs.Kit.{get_or-set_same, ne_eqb}
 use Rattle.prelude.specs.Kit.{eq-eqb}
 use Rattle.semantics.specs.Basics.{updated}
 use Rattle.semantics.specs.Syntax as S

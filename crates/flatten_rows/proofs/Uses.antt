@@ -9,7 +9,8 @@ use Rattle.plain_rows.specs.Stands.{Linked, LinkedAll}
 use Rattle.flatten_rows.specs.Laid.{used_once, noted_once, used, noted, placed_all}
 
 -- a table changed at one place is its function changed there
-pub table_set : (d : List ℕ) (z x v : ℕ) → x < length d → (λ y. get_or (set d x v) y z) ≡ updated (λ y. get_or d y z) x v
+pub table_set : (d : List ℕ) (z x v : ℕ) → x < length d →
+    (λ y. get_or (set d x v) y z) ≡ updated (λ y. get_or d y z) x v
 unfolding updated
 table_set d z x v h = fun_ext (λ y. go y (ℕ_discrete x y))
   where

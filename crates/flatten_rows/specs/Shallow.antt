@@ -5,7 +5,8 @@ use Rattle.semantics.specs.Kinds.{Leaf, operation, call, literal, index, length_
 use Rattle.semantics.specs.Kinds.{Loop, mapping, filtering, reducing, rewriting}
 use Rattle.semantics.specs.Code as C
 use Rattle.semantics.specs.Code.{Atom, Tree, end, line, ending}
-use Rattle.semantics.specs.Annotate.{NameDepths, atom_depth, depth_of, pass_depths, with_depths, tree_depths, line_depths}
+use Rattle.semantics.specs.Annotate.{NameDepths, atom_depth, depth_of, pass_depths, with_depths, tree_depths}
+use Rattle.semantics.specs.Annotate.{line_depths}
 
 abbrev pub ShallowLeaf : Leaf → NameDepths → List Atom → Type 0
 ShallowLeaf (operation o) Γ us = Unit {0}

@@ -5,7 +5,8 @@ ghost use Rattle.flatten_rows.specs.Made.{Given, AtomPlaced};
 
 use script_read::Atomic;
 
-// The place that no atom has: it stands where there is none.
+// The place that no atom has. It is a number and no Option: a table keeps a place in two bytes, and `nowhere` and
+// `Unbound` state it.
 pub const NO_PLACE: u16 = 65535;
 
 // The place of the atom at a node: of its number, or what its name means; none where no atom is found.

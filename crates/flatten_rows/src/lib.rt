@@ -3,7 +3,7 @@
 
 pub mod atoms;
 
-ghost use Rattle.std.specs.Prelude.{◌≡◌, [], ◌∷◌, pred, ◌+◌, ◌*◌, ◌<◌, ◌≤◌, length, get_or, set};
+ghost use Rattle.std.specs.Prelude.{◌≡◌, [], ◌∷◌, pred, ◌+◌, ◌*◌, ◌<◌, ◌≤◌, get_or, set};
 ghost use Rattle.script_read.specs.Told.{second_name};
 ghost use Rattle.plain_rows.specs.Plain.{packed_row, loop_of, loop_size};
 ghost use Rattle.flatten_rows.specs.Laid.{laid, firsts, noted, UsesLaid, LineLaid, place_depth, line_depth};
@@ -247,7 +247,7 @@ pub struct Meant {
 // The written names of a pass mean the new names after n; a second name hides an equal first, and where there is one
 // name it is both.
 pub fn bind_pass(places: &mut [u16; 256], kind: u8, low: u8, high: u8, n: usize) -> Meant
-    requires { (n + loop_size (loop_of kind) < 256) × (length places.old ≡ 256) }
+    requires { n + loop_size (loop_of kind) < 256 }
     ensures places_after { places.new
         ≡ set (set places.old low (n + 1)) (second_name kind low high) (n + loop_size (loop_of kind)) }
     ensures first_value { (result.first ≡ get_or places.old low 0)
@@ -264,7 +264,6 @@ pub fn bind_pass(places: &mut [u16; 256], kind: u8, low: u8, high: u8, n: usize)
 
 // The written names of a pass mean again what they meant before.
 pub fn unbind_pass(places: &mut [u16; 256], kind: u8, low: u8, high: u8, old: Meant)
-    requires { length places.old ≡ 256 }
     ensures { places.new
         ≡ set (set places.old (second_name kind low high) old.second) low old.first }
 {

@@ -1,6 +1,7 @@
 -- Counts as arrays, and tests of all names.
 use Rattle.prelude.specs.Kit.{ℕ, ◌+◌, ◌<◌, suc, zero, pred, arith, ℕ_discrete, true, false, Bool, cond, ◌&&◌, ◌≡◌}
-use Rattle.prelude.specs.Kit.{refl, ◌∙◌, sym, ap, fun_ext, List, eqb, length, get_or, set, get_or-set_other}
+use lib.Pointwise.{pointwise}
+use Rattle.prelude.specs.Kit.{refl, ◌∙◌, sym, ap, fun_ext, List, [], ◌∷◌, eqb, length, get_or, set, get_or-set_other}
 use Rattle.prelude.specs.Kit.{get_or-set_same, ne_eqb, eq-eqb}
 use Rattle.semantics.specs.Basics.{all, updated}
 use Rattle.semantics_lent.specs.Hold.{plus, minus, same_holds, none_bound}
@@ -52,9 +53,28 @@ all_more f n e =
 
 -- ---- the two tests
 
-pub same_says : (a b : List ℕ) → all (λ k. eqb (get_or a k 0) (get_or b k 0)) 0 256 ≡ same_holds (counted a) (counted b)
+-- the numbers from one on
+all_next : (f : ℕ → Bool) (i n : ℕ) → all f (suc i) n ≡ all (λ k. f (suc k)) i n
+unfolding all
+all_next f i zero = refl
+all_next f i (suc n) = ap (λ b. f (suc i) && b) (all_next f (suc i) n)
+
+alike : (n : ℕ) (a b : List ℕ) → length a ≡ n → length b ≡ n →
+    pointwise eqb a b ≡ all (λ k. eqb (get_or a k 0) (get_or b k 0)) 0 n
+unfolding all
+alike zero [] [] h k = refl
+alike zero (x ∷ a) b h k = absurd (let z : ⊥ = omega (arith, h) in z)
+alike zero [] (y ∷ b) h k = absurd (let z : ⊥ = omega (arith, k) in z)
+alike (suc n) [] b h k = absurd (let z : ⊥ = omega (arith, h) in z)
+alike (suc n) (x ∷ a) [] h k = absurd (let z : ⊥ = omega (arith, k) in z)
+alike (suc n) (x ∷ a) (y ∷ b) h k =
+    rw (all_next (λ j. eqb (get_or (x ∷ a) j 0) (get_or (y ∷ b) j 0)) 0 n)
+    (ap (λ r. eqb x y && r) (alike n a b (omega (arith, h)) (omega (arith, k))))
+
+pub same_so : (a b : List ℕ) {r : Bool} → length a ≡ 256 → length b ≡ 256 → r ≡ pointwise eqb a b →
+    r ≡ same_holds (counted a) (counted b)
 unfolding same_holds
-same_says a b = refl
+same_so a b h k e = e ∙ alike 256 a b h k
 
 pub bound_says : (lent : List Bool) (before after : List ℕ) →
     all (λ k. kept_out (get_or lent k false) (get_or before k 0) (get_or after k 0)) 0 256

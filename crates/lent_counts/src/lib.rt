@@ -5,17 +5,12 @@ ghost use Rattle.std.specs.Prelude.{◌≡◌};
 ghost use Rattle.semantics_lent.specs.Hold.{same_holds, none_bound};
 ghost use Rattle.lent_counts.specs.Counted.{counted, set_of, kept_out};
 
-// The loops over all names go on after a test fails, so that they are worked many names at a time.
-
 // Whether each name holds as many by both.
+#[tactic(auto, using(crate::proofs::Laws::same_so))]
 pub fn same_counts(a: &[u16; 256], b: &[u16; 256]) -> bool
     ensures { result ≡ same_holds (counted a.now) (counted b.now) }
 {
-    let mut same = true;
-    for i in 0..256 {
-        same &= a[i] == b[i];
-    }
-    same
+    a == b
 }
 
 // Whether a name may be held at the end of a branch: it holds nothing, or held some before, or is lent.
@@ -25,7 +20,8 @@ fn may_hold(lent: bool, before: u16, after: u16) -> bool
     after == 0 || lent || 0 < before
 }
 
-// Whether a tree leaves no hold on a name bound in it.
+// Whether a tree leaves no hold on a name bound in it. The loop goes on after a test fails, and so is worked many names
+// at a time: `all` over the range took five times as long at least.
 pub fn none_bound(lent: &[bool; 256], before: &[u16; 256], after: &[u16; 256]) -> bool
     ensures { result ≡ none_bound (set_of lent.now) (counted before.now)
         (counted after.now) }

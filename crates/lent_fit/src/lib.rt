@@ -23,8 +23,7 @@ fn fit_parameters(
     at: usize,
     n: usize,
 ) -> Result<usize, Fault>
-    requires { (at ≤ length operands.now) × (n ≤ 255) × (length operands.now ≤ 9223372036854775807)
-        × (length bound.old ≡ 256) × (length depths.old ≡ 256) }
+    requires { (at ≤ length operands.now) × (n ≤ 255) × (length operands.now ≤ 9223372036854775807) }
     ensures { Lines
         (parameters_fit operands.now n (bound_of bound.old depths.old) at)
         result bound.new depths.new }
@@ -45,8 +44,7 @@ fn fit_function(
     depths: &mut [u8; 256],
     at: usize,
 ) -> Result<Fit, Fault>
-    requires { Cut kinds.now operands.now × (length starts.now ≡ 32) × (depths.old ≡ replicate 256 0)
-        × (at < length kinds.now) }
+    requires { Cut kinds.now operands.now × (depths.old ≡ replicate 256 0) × (at < length kinds.now) }
     ensures { (function_fits kinds.now operands.now starts.now at
         ≡ told_function result depths.new) × (length depths.new ≡ 256) }
 {
@@ -70,7 +68,7 @@ fn fit_function(
 
 // Lays the depths of a function's names in the table.
 fn lay(depths: &[u8; 256], f: usize, table: &mut [u8])
-    requires { (f < 32) × (8192 ≤ length table.old) × (length depths.now ≡ 256) }
+    requires { (f < 32) × (8192 ≤ length table.old) }
     ensures { Lays depths.now f table.old table.new }
 {
     table[256 * f..256 * f + 256].copy_from_slice(depths);
@@ -84,8 +82,7 @@ fn fit_functions(
     functions: usize,
     table: &mut [u8],
 ) -> Result<usize, Fault>
-    requires { Cut kinds.now operands.now × (length starts.now ≡ 32) × (functions ≤ 32)
-        × (8192 ≤ length table.old) }
+    requires { Cut kinds.now operands.now × (functions ≤ 32) × (8192 ≤ length table.old) }
     ensures { Told (functions_fit kinds.now operands.now starts.now functions 0)
         result table.old table.new }
 {
@@ -124,8 +121,7 @@ pub fn fit(
     d: u64,
     table: &mut [u8],
 ) -> Result<usize, Fault>
-    requires { Cut kinds.now operands.now × (length starts.now ≡ 32) × (functions ≤ 32)
-        × (8192 ≤ length table.old) }
+    requires { Cut kinds.now operands.now × (functions ≤ 32) × (8192 ≤ length table.old) }
     ensures { Told (code_fits kinds.now operands.now starts.now d functions)
         result table.old table.new }
 {

@@ -1,6 +1,7 @@
 -- The second walk by positions: what a line without trees is found to have, for rows of any content. The state of a
 -- test is the position, which is the number of the line.
-use Rattle.std.specs.Prelude.{◌≡◌, Bool, true, false, cond, not, ◌&&◌, ◌||◌, List, [], ◌∷◌, map, ℕ, zero, suc, ◌+◌, ◌/◌, ◌%◌, ℤ, pos, eqb, ltb, leb, get_or, length, take, is_some, IfSome}
+use Rattle.std.specs.Prelude.{◌≡◌, Bool, true, false, cond, not, ◌&&◌, ◌||◌, List, [], ◌∷◌, map, ℕ, zero, suc}
+use Rattle.std.specs.Prelude.{◌+◌, ◌/◌, ◌%◌, ℤ, pos, eqb, ltb, leb, get_or, length, take, is_some, IfSome}
 use Rattle.std.specs.Prelude.{Option as Optional, Some, None, Result, Ok, Err}
 use Rattle.std.proofs.Math.Option.{Option, none, some}
 use Rattle.semantics.specs.Outcome.{Outcome, done, stop}

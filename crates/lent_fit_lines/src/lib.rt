@@ -68,7 +68,8 @@ fn depth_of(depths: &[u8; 256], a: Atom) -> u8
     }
 }
 
-// The depths of n atoms from a line on; none, where one of them may not be used.
+// The depths of n atoms from a line on; none, where one of them may not be used. There is no heap: the array has room
+// for the most atoms of a line, and goes on with its number, as the rules of `script_rules` take both.
 fn gather(
     kinds: &[u8],
     operands: &[i64],
@@ -94,7 +95,6 @@ fn gather(
 
 // Binds a name.
 pub fn bind(bound: &mut [bool; 256], depths: &mut [u8; 256], x: u8, d: u8)
-    requires { (length bound.old ≡ 256) × (length depths.old ≡ 256) }
     ensures { (bound_of bound.new depths.new
         ≡ with_name x d (bound_of bound.old depths.old))
         × (length bound.new ≡ 256) × (length depths.new ≡ 256) }
@@ -105,7 +105,6 @@ pub fn bind(bound: &mut [bool; 256], depths: &mut [u8; 256], x: u8, d: u8)
 
 // Binds a name that is not yet bound: whether it was not.
 pub fn bind_new(bound: &mut [bool; 256], depths: &mut [u8; 256], x: u8, d: u8) -> bool
-    requires { (length bound.old ≡ 256) × (length depths.old ≡ 256) }
     ensures { Opened (not (get_or bound.old x false))
         (with_name x d (bound_of bound.old depths.old))
         result bound.new depths.new }
@@ -149,7 +148,6 @@ fn third_at(operands: &[i64], at: usize) -> u8
 
 // The line of a function; past the code's lines where there is none.
 fn start_of(starts: &[usize; 32], f: u8) -> usize
-    requires { length starts.now ≡ 32 }
     ensures { result ≡ start_of starts.now f }
 {
     words::get_or(starts, f as usize, NO_FUNCTION)
@@ -157,7 +155,7 @@ fn start_of(starts: &[usize; 32], f: u8) -> usize
 
 // Whether the depths of the n parameters from a line on are the first n depths.
 fn parameters_match(operands: &[i64], at: usize, ds: &[u8; 16], n: usize) -> bool
-    requires { (n ≤ 16) × (length ds.now ≡ 16) × (at ≤ length operands.now) }
+    requires { (n ≤ 16) × (at ≤ length operands.now) }
     ensures { result ≡ same (depths_from operands.now n at) (take n ds.now) }
 {
     for i in 0..n {
@@ -171,7 +169,6 @@ fn parameters_match(operands: &[i64], at: usize, ds: &[u8; 16], n: usize) -> boo
 // How many atoms a line without trees has.
 #[tactic(auto, unfolding(crate::specs::Walk::count_at))]
 fn atoms_of(operands: &[i64], starts: &[usize; 32], kind: u8, at: usize) -> u8
-    requires { length starts.now ≡ 32 }
     ensures { result ≡ count_at operands.now starts.now kind at }
 {
     match kind {
@@ -185,7 +182,7 @@ fn atoms_of(operands: &[i64], starts: &[usize; 32], kind: u8, at: usize) -> u8
 // A call's depth, by those of its n atoms: as many as the function has parameters.
 #[tactic(auto, using(crate::proofs::Lines::call_laws))]
 fn call_depth(operands: &[i64], start: usize, ds: &[u8; 16], n: usize) -> Option<u8>
-    requires { (n ≤ 16) × (length ds.now ≡ 16) × (n ≡ first_at operands.now start) }
+    requires { (n ≤ 16) × (n ≡ first_at operands.now start) }
     ensures { judged_outcome result ≡ rule_outcome
         (call_rule (signature_at operands.now start) (take n ds.now)) }
 {
@@ -197,7 +194,7 @@ fn call_depth(operands: &[i64], start: usize, ds: &[u8; 16], n: usize) -> Option
 
 // A literal's depth, by those of its n atoms and by that of its elements.
 fn literal_depth(ds: &[u8; 16], n: usize, d: u8) -> Option<u8>
-    requires { (n ≤ 16) × (length ds.now ≡ 16) }
+    requires { n ≤ 16 }
     ensures { judged_outcome result ≡ rule_outcome (literal_within d (take n ds.now)) }
 {
     if 3 < d {
@@ -217,8 +214,7 @@ fn leaf_depth(
     ds: &[u8; 16],
     n: usize,
 ) -> Option<u8>
-    requires { (length starts.now ≡ 32) × (length ds.now ≡ 16) × (n ≤ 16)
-        × (n ≡ count_at operands.now starts.now kind at) }
+    requires { (n ≤ 16) × (n ≡ count_at operands.now starts.now kind at) }
     ensures { judged_outcome result ≡ rule_outcome
         (rule_at operands.now starts.now kind at (take n ds.now)) }
 {
@@ -245,8 +241,7 @@ fn fit_leaf(
     kind: u8,
     at: usize,
 ) -> Result<usize, Fault>
-    requires { Cut kinds.now operands.now × (at < length kinds.now) × (length starts.now ≡ 32)
-        × (length bound.old ≡ 256) × (length depths.old ≡ 256) }
+    requires { Cut kinds.now operands.now × (at < length kinds.now) }
     ensures { Lines
         (leaf_fits kinds.now operands.now starts.now kind
         (set_of scope.now) (bound_of bound.old depths.old) at)
@@ -257,12 +252,8 @@ fn fit_leaf(
     if 16 < n {
         return Err(fault);
     }
-    let Some(ds) = gather(kinds, operands, scope, depths, at + 1, n) else {
-        return Err(fault);
-    };
-    let Some(d) = leaf_depth(operands, starts, kind, at, &ds, n) else {
-        return Err(fault);
-    };
+    let ds = gather(kinds, operands, scope, depths, at + 1, n).ok_or(fault)?;
+    let d = leaf_depth(operands, starts, kind, at, &ds, n).ok_or(fault)?;
     if bind_new(bound, depths, first_at(operands, at), d) {
         Ok(at + 1 + n)
     } else {
@@ -308,8 +299,7 @@ pub fn fit_plain(
     kind: u8,
     at: usize,
 ) -> Result<usize, Fault>
-    requires { Cut kinds.now operands.now × (at < length kinds.now) × (length starts.now ≡ 32)
-        × (length bound.old ≡ 256) × (length depths.old ≡ 256) }
+    requires { Cut kinds.now operands.now × (at < length kinds.now) }
     ensures { Lines
         (plain_fits kinds.now operands.now starts.now kind
         (set_of scope.now) (bound_of bound.old depths.old) at)

@@ -22,8 +22,7 @@ pub fn open_if(
     scope: &[bool; 256],
     at: usize,
 ) -> bool
-    requires { Cut kinds.now operands.now × (at < length kinds.now)
-        × (length bound.old ≡ 256) × (length depths.old ≡ 256) }
+    requires { Cut kinds.now operands.now × (at < length kinds.now) }
     ensures { Opened
         (if_opens (set_of scope.now) (bound_of bound.old depths.old)
         (meant (atom_at kinds.now operands.now (at + 1))) (first_at operands.now at))
@@ -71,7 +70,6 @@ fn open_name(
     x: u8,
     d: u8,
 ) -> bool
-    requires { (length bound.old ≡ 256) × (length depths.old ≡ 256) × (length scope.old ≡ 256) }
     ensures { PassOpened (not (get_or bound.old x false))
         (with_name x d (bound_of bound.old depths.old))
         (set_of scope.old ∪ just (x ∷ []))
@@ -92,7 +90,6 @@ fn open_pass(
     first: u8,
     element: u8,
 ) -> bool
-    requires { (length bound.old ≡ 256) × (length depths.old ≡ 256) × (length scope.old ≡ 256) }
     ensures { PassOpened
         (all_new
         (pass_names (loop_of kind) (second_at operands.now at) (third_at operands.now at))
@@ -123,8 +120,7 @@ pub fn open_loop(
     kind: u8,
     at: usize,
 ) -> Option<u8>
-    requires { Cut kinds.now operands.now × (at < length kinds.now)
-        × (length bound.old ≡ 256) × (length depths.old ≡ 256) × (length scope.old ≡ 256) }
+    requires { Cut kinds.now operands.now × (at < length kinds.now) }
     ensures { LoopOpened (loop_of kind)
         (set_of scope.old) (bound_of bound.old depths.old)
         (atoms_from kinds.now operands.now (loop_count (loop_of kind)) (at + 1))

@@ -6,7 +6,7 @@ use Rattle.semantics.specs.Live.{Set, ◌∪◌, only, just}
 use Rattle.semantics.specs.Annotate.{depth_of}
 use Rattle.semantics_lent.specs.Form.{Test}
 use Rattle.semantics_lent.specs.Fit.{Bound, with_name, Fitted}
-use Rattle.machine_code.specs.Reading.{atom_at, Cut}
+use Rattle.machine_code.specs.Reading.{atom_at}
 use Rattle.std.specs.Prelude.{Result, Ok, Err}
 use Rattle.lent_form.specs.declared.Fault.{Fault}
 use Rattle.lent_fit_lines.specs.declared.Fit.{Fit}
@@ -30,13 +30,6 @@ pub record Trees (o : Outcome ℕ Fitted) (r : Result Fit Fault) (b : List Bool)
 abbrev pub told_end : Bound → Result Fit Fault → Outcome ℕ Fitted
 told_end N (Ok f) = done (record { bound = N; depth = f.depth }) f.next
 told_end N (Err e) = stop 29 e.line
-
--- what the walk asks of its arrays
-pub record Ready (kinds : List ℕ) (operands : List ℤ) (starts : List ℕ) (b : List Bool) (g : List ℕ) : Type 0 where
-  pub cut : Cut kinds operands
-  pub places : length starts ≡ 32
-  pub long : length b ≡ 256
-  pub deep : length g ≡ 256
 
 -- a walk of trees of one level less
 abbrev pub Below : Type 0

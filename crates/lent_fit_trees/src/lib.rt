@@ -1,9 +1,10 @@
 // The depths and scopes of lent code, the second of the checker's three walks: trees, and lines with their trees.
 #![tactic(auto)]
 
-ghost use Rattle.std.specs.Prelude.{◌≡◌, ◌<◌, length};
+ghost use Rattle.std.specs.Prelude.{◌<◌, length};
+ghost use Rattle.machine_code.specs.Reading.{Cut};
 ghost use Rattle.lent_fit_lines.specs.Walk.{set_of, bound_of, Lines};
-ghost use Rattle.lent_fit_trees.specs.Trees.{Trees, Ready, if_fits, loop_fits, line_fits, tree_fits};
+ghost use Rattle.lent_fit_trees.specs.Trees.{Trees, if_fits, loop_fits, line_fits, tree_fits};
 
 use lent_fit_lines::opening::{loop_atoms, loop_depth, loop_wants, loops, open_if, open_loop};
 use lent_fit_lines::{Fit, Wants, bind, binds, first_at, fit_end, fit_plain};
@@ -22,7 +23,7 @@ pub fn fit_tree(
     at: usize,
     levels: u64,
 ) -> Result<Fit, Fault>
-    requires { Ready kinds.now operands.now starts.now bound.old depths.old × (length scope ≡ 256) }
+    requires { Cut kinds.now operands.now }
     ensures { Trees
         (tree_fits kinds.now operands.now starts.now levels wants (set_of scope)
         (bound_of bound.old depths.old) at)
@@ -73,8 +74,7 @@ fn fit_line(
     at: usize,
     levels: u64,
 ) -> Result<usize, Fault>
-    requires { Ready kinds.now operands.now starts.now bound.old depths.old × (length scope ≡ 256)
-        × (at < length kinds.now) }
+    requires { Cut kinds.now operands.now × (at < length kinds.now) }
     ensures { Lines
         (line_fits kinds.now operands.now starts.now
         (tree_fits kinds.now operands.now starts.now levels) kind (set_of scope)
@@ -104,8 +104,7 @@ fn fit_if(
     at: usize,
     levels: u64,
 ) -> Result<usize, Fault>
-    requires { Ready kinds.now operands.now starts.now bound.old depths.old × (length scope ≡ 256)
-        × (at < length kinds.now) }
+    requires { Cut kinds.now operands.now × (at < length kinds.now) }
     ensures { Lines
         (if_fits kinds.now operands.now starts.now
         (tree_fits kinds.now operands.now starts.now levels) (set_of scope)
@@ -147,8 +146,7 @@ fn fit_loop(
     at: usize,
     levels: u64,
 ) -> Result<usize, Fault>
-    requires { Ready kinds.now operands.now starts.now bound.old depths.old × (length scope ≡ 256)
-        × (at < length kinds.now) }
+    requires { Cut kinds.now operands.now × (at < length kinds.now) }
     ensures { Lines
         (loop_fits kinds.now operands.now starts.now
         (tree_fits kinds.now operands.now starts.now levels) kind (set_of scope)
@@ -156,17 +154,14 @@ fn fit_loop(
         result bound.new depths.new }
 {
     let mut s = scope;
-    let Some(first) = open_loop(kinds, operands, bound, depths, &mut s, kind, at) else {
-        return Err(Fault { line: at });
-    };
+    let fault = Fault { line: at };
+    let first = open_loop(kinds, operands, bound, depths, &mut s, kind, at).ok_or(fault)?;
     let wants = loop_wants(kind, first);
     let below = at + 1 + loop_atoms(kind);
     let tree = fit_tree(
         kinds, operands, starts, bound, depths, s, wants, below, levels,
     )?;
-    let Some(depth) = loop_depth(kind, first, tree.depth) else {
-        return Err(Fault { line: tree.next });
-    };
+    let depth = loop_depth(kind, first, tree.depth).ok_or(Fault { line: tree.next })?;
     bind(bound, depths, first_at(operands, at), depth);
     Ok(tree.next)
 }

@@ -124,7 +124,7 @@ fn form_functions(
     over: bool,
     starts: &mut [usize; 32],
 ) -> Result<Formed, Fault>
-    requires { Ready kinds.now operands.now arities.now × (length starts.old ≡ 32) }
+    requires { Ready kinds.now operands.now arities.now }
     ensures { Answers
         (code_form (paired kinds.now operands.now)
         (arities_of (paired kinds.now operands.now)) over 0) result starts.new }
@@ -189,7 +189,6 @@ fn used<T: Copy + PartialEq>(words: &[T], zero: T) -> usize
 // The form of two arrays of any lengths and contents. The table gets the line of each function of code that is
 // accepted.
 pub fn form(kinds: &[u8], operands: &[i64], starts: &mut [usize; 32]) -> Result<Formed, Fault>
-    requires { length starts.old ≡ 32 }
     ensures { Answers (form kinds.now operands.now) result starts.new }
 {
     let all = used(kinds, 0).max(used(operands, 0));

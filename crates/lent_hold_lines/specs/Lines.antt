@@ -1,6 +1,7 @@
 -- The lines of lent code that have no tree, as they are read at a position: what each does to the holds. Where the rows
 -- of a line stand there, this is `hold_line`'s word for it.
-use Rattle.std.specs.Prelude.{◌≡◌, Bool, true, false, not, ◌||◌, List, [], ◌∷◌, ℕ, zero, suc, ◌+◌, ◌≤◌, ℤ, eqb, ltb, length, get_or, Option, Some, None, Result, Ok, Err}
+use Rattle.std.specs.Prelude.{◌≡◌, Bool, true, false, not, ◌||◌, List, [], ◌∷◌, ℕ, zero, suc, ◌+◌, ◌≤◌, ℤ, eqb, ltb}
+use Rattle.std.specs.Prelude.{length, get_or, Option, Some, None, Result, Ok, Err}
 use Rattle.semantics.specs.Outcome.{Outcome, done, stop, ◌>>=◌, ◌>>◌, give}
 use Rattle.semantics.specs.Kinds.{Borrowing, picked}
 use Rattle.semantics.specs.Code as C

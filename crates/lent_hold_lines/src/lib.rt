@@ -56,12 +56,9 @@ fn may_read_all(of: &Function, lent: &[bool; 256], holds: &[u16; 256], atoms: &[
     ensures { result ≡ readable (depths_of of.now) (set_of lent.now)
         (counted holds.now) (map meant atoms.now) }
 {
-    for a in atoms {
-        if !may_read(of.depths, of.number, lent, holds, *a) {
-            return false;
-        }
-    }
-    true
+    atoms
+        .iter()
+        .all(|a| may_read(of.depths, of.number, lent, holds, *a))
 }
 
 // ---- lines

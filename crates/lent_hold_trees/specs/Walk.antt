@@ -1,6 +1,7 @@
 -- The third walk over lent code by positions, for rows of any content. Where the rows of a tree stand from a position
 -- on it is `hold_tree`.
-use Rattle.std.specs.Prelude.{◌≡◌, Bool, true, false, cond, ◌||◌, eqb, ltb, List, [], ◌∷◌, ℕ, zero, suc, ◌+◌, ◌≤◌, ℤ, length}
+use Rattle.std.specs.Prelude.{◌≡◌, Bool, true, false, cond, ◌||◌, eqb, ltb, List, [], ◌∷◌, ℕ, zero, suc, ◌+◌, ◌≤◌, ℤ}
+use Rattle.std.specs.Prelude.{length}
 use Rattle.std.proofs.Math.Option.{Option, none, some}
 use Rattle.std.specs.Prelude as R
 use Rattle.semantics.specs.Outcome.{stop, ◌>>=◌, ◌>>◌, give}
@@ -11,8 +12,8 @@ use Rattle.semantics.specs.Code as C
 use Rattle.semantics.specs.Live.{Set, empty}
 use Rattle.semantics.specs.Annotate.{NameDepths, is_array}
 use Rattle.semantics_lent.specs.Form.{Test, must, skip, fault}
-use Rattle.semantics_lent.specs.Hold.{Holds, After, minus, spend, readable, set_aside, lending, hold_also, hold_all, arrays_in}
-use Rattle.semantics_lent.specs.Hold.{same_holds, none_bound}
+use Rattle.semantics_lent.specs.Hold.{Holds, After, minus, spend, readable, set_aside, lending, hold_also, hold_all}
+use Rattle.semantics_lent.specs.Hold.{arrays_in, same_holds, none_bound}
 use Rattle.kinds.specs.declared.Atom.{Atom}
 use Rattle.machine_code.specs.Reading.{Cut, two_rows, line_at}
 use Rattle.machine_code.specs.declared.Loop.{Loop}

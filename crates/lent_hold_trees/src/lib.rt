@@ -8,17 +8,14 @@ ghost use Rattle.semantics_lent.specs.Hold.{spend, hold_all, arrays_in};
 ghost use Rattle.lent_counts.specs.Counted.{counted, set_of};
 ghost use Rattle.lent_atoms.specs.Told.{meant, told};
 ghost use Rattle.lent_hold_lines.specs.Lines.{depths_of, borrowed_of, waiting, Below, Passed, Ended, asked};
-ghost use Rattle.lent_hold_trees.specs.Walk.{kind_of, names_of, atoms_of, name_of, array_of, may_read, lent_with, aside_of};
-ghost use Rattle.lent_hold_trees.specs.Walk.{if_at, loop_at, line_at_by, tree_at, Ready};
+ghost use Rattle.lent_hold_trees.specs.Walk.{kind_of, names_of, atoms_of, name_of, array_of, may_read, lent_with};
+ghost use Rattle.lent_hold_trees.specs.Walk.{aside_of, if_at, loop_at, line_at_by, tree_at, Ready};
 
 use kinds::Atom;
 use lent_atoms::{gain, hand_over, is_array};
 use lent_form::Fault;
 use lent_hold_lines::{Asked, Function, Next, pending, walk_end, walk_leaf};
 use machine_code::{Line, Loop};
-
-// How many lines code has at most.
-const MOST_LINES: usize = 4096;
 
 // ---- the parts of a loop
 
@@ -247,7 +244,7 @@ pub fn walk_tree(
         return Err(Fault { line: at });
     }
     let mut here = Next { line: at, pending };
-    for _ in 0..MOST_LINES {
+    for _ in 0..machine_code::MOST_LINES {
         if !machine_code::two_rows(of.kinds, of.operands, here.line) {
             return Err(Fault { line: here.line });
         }

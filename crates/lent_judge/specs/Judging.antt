@@ -26,8 +26,8 @@ pub record LinesFit (kinds : List ℕ) (operands : List ℤ) (lines : ℕ) : Typ
   pub cut : Cut (take lines kinds) (take lines operands)
 
 -- the judgement for main of depth d; of code that passes, the lines with a table that has room for it are its program's
-pub record JudgesCode (kinds : List ℕ) (operands : List ℤ) (d : ℕ) (table : List ℕ) (r : Result ℕ Fault) (table' : List ℕ)
-    : Type 0 where
+pub record JudgesCode (kinds : List ℕ) (operands : List ℤ) (d : ℕ) (table : List ℕ) (r : Result ℕ Fault)
+    (table' : List ℕ) : Type 0 where
   pub is : judged_outcome r ≡ lines_of (judged_code kinds operands d)
   pub fit : (P : Program) (lines : ℕ) → judged_code kinds operands d ≡ done P lines → LinesFit kinds operands lines
   pub depth : (P : Program) (lines : ℕ) → judged_code kinds operands d ≡ done P lines → (d ≡ P.depth) × (d ≤ 4)

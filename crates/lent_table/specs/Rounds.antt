@@ -1,6 +1,7 @@
 -- The table of borrowed parameters by positions, for rows of any content. Where the rows of functions stand it is
 -- `lent_table`.
-use Rattle.std.specs.Prelude.{◌≡◌, Bool, cond, not, ◌&&◌, List, [], ℕ, zero, suc, ◌+◌, ◌-◌, ◌<◌, min, ℤ, eqb, ltb, get_or, length}
+use Rattle.std.specs.Prelude.{◌≡◌, Bool, cond, not, ◌&&◌, List, [], ℕ, zero, suc, ◌+◌, ◌-◌, ◌<◌, min, ℤ, eqb, ltb}
+use Rattle.std.specs.Prelude.{get_or, length}
 use Rattle.semantics.specs.Basics.{tabulate}
 use Rattle.semantics.specs.Live.{Set, empty}
 use Rattle.semantics.specs.Borrow.{Table, borrows, all_borrowed, same_table}

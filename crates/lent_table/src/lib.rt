@@ -27,6 +27,7 @@ struct Code<'a> {
 fn start_at(code: &Code, f: usize) -> usize
     ensures { (result ≡ start_at code.now.starts.now f) × (result ≤ 4096) }
 {
+    // (The borrow checker does not cover a field's array that is lent as a slice.)
     let starts = code.starts;
     words::get_or(starts, f, MOST_LINES).min(MOST_LINES)
 }

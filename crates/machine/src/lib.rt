@@ -1,11 +1,11 @@
 // The machine: workers for a tree, a line and the passes of a loop that call each other. What falls is the steps left,
 // and where no step is taken the lines left. `calls` is the call depth left. The code's slices are cut to its lines,
-// and lent by a reference to each: a frame then has no copy of them.
+// and lent by a reference to each: a frame then has no copy of them. Why the arrays that are written, and the numbers,
+// are lent one by one: docs/DECISIONS.md C3.
 #![tactic(auto)]
 
 ghost use Rattle.std.specs.Prelude.{◌≡◌, ◌<◌, length};
 ghost use Rattle.semantics.specs.Words.{store_of};
-ghost use Rattle.machine_frames.specs.Frames.{frame_words};
 ghost use Rattle.machine_code.specs.Reading.{Cut};
 ghost use Rattle.machine_frames.specs.Work.{memory, shown};
 ghost use Rattle.machine_lines.specs.Lines.{kind_of, first_name, second_name, atoms_of};
@@ -33,7 +33,7 @@ pub fn work_tree(
     calls: usize,
     at: usize,
 ) -> Result<Done, Halted>
-    requires { (calls < 32) × (length env.old ≡ frame_words) × Cut kinds.now.now operands.now.now }
+    requires { (calls < 32) × Cut kinds.now.now operands.now.now }
     ensures { Ended (tree_on lines
         (call_on calls (code kinds.now.now operands.now.now table.now))
         (code kinds.now.now operands.now.now table.now) calls at steps
@@ -75,8 +75,7 @@ fn work_line(
     at: usize,
     l: Line,
 ) -> Result<Done, Halted>
-    requires { (at < length kinds.now.now) × (calls < 32) × (length env.old ≡ frame_words)
-        × Cut kinds.now.now operands.now.now }
+    requires { (at < length kinds.now.now) × (calls < 32) × Cut kinds.now.now operands.now.now }
     ensures { Ended (line_on
         (tree_on lines
         (call_on calls (code kinds.now.now operands.now.now table.now))
@@ -118,8 +117,7 @@ fn work_if(
     x: u8,
     g: Atom,
 ) -> Result<Done, Halted>
-    requires { (at < length kinds.now.now) × (calls < 32) × (length env.old ≡ frame_words)
-        × Cut kinds.now.now operands.now.now }
+    requires { (at < length kinds.now.now) × (calls < 32) × Cut kinds.now.now operands.now.now }
     ensures { Ended (if_line
         (tree_on lines
         (call_on calls (code kinds.now.now operands.now.now table.now))
@@ -168,8 +166,7 @@ fn work_call(
     x: u8,
     g: u8,
 ) -> Result<Done, Halted>
-    requires { (at < length kinds.now.now) × (calls < 32) × (length env.old ≡ frame_words)
-        × Cut kinds.now.now operands.now.now }
+    requires { (at < length kinds.now.now) × (calls < 32) × Cut kinds.now.now operands.now.now }
     ensures { Ended (call_line
         (call_on calls (code kinds.now.now operands.now.now table.now))
         (code kinds.now.now operands.now.now table.now) calls x g at steps
@@ -219,8 +216,7 @@ fn work_loop(
     x: u8,
     l: Loop,
 ) -> Result<Done, Halted>
-    requires { (at < length kinds.now.now) × (calls < 32) × (length env.old ≡ frame_words)
-        × Cut kinds.now.now operands.now.now }
+    requires { (at < length kinds.now.now) × (calls < 32) × Cut kinds.now.now operands.now.now }
     ensures { Ended (loop_line
         (tree_on lines
         (call_on calls (code kinds.now.now operands.now.now table.now))
@@ -269,7 +265,7 @@ fn work_pass(
     at: usize,
     l: Passes,
 ) -> Result<Done, Halted>
-    requires { (calls < 32) × (length env.old ≡ frame_words) × Cut kinds.now.now operands.now.now
+    requires { (calls < 32) × Cut kinds.now.now operands.now.now
         × Usable slots.old heads.old l }
     ensures { Ended (passes_on (looped l.way
         (tree_on lines

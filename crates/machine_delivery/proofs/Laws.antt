@@ -58,7 +58,7 @@ pub record MainEnds (t : Tried) (budget d : ℕ) (old : ℤ) (r : Out) (least : 
 module _ (c : Code) (d : ℕ) (old : ℤ) (k n budget : ℕ) (slots : List ℤ) (heads heads₁ : List ℕ)
     (σe : store_of slots heads₁ ≡ retained_totals d old (store_of slots heads)) (z : ℤ) (ze : z ≡ pos k)
     (h : ℕ) (se : h ≡ start_in c.table 0) (count x y : ℕ) (ce : count ≡ name_at c.operands h)
-    (xe : x ≡ name_at c.operands (h + 1)) (ye : y ≡ name_at c.operands (h + 1 + 1))
+    (xe : x ≡ name_at c.operands (h + 1)) (ye : y ≡ name_at c.operands (h + 2))
     (env₀ env₁ env₂ env₃ : List ℤ) (e₀ : env₀ ≡ levelled n (replicate frame_words (pos 0)))
     (e₁ : env₁ ≡ set env₀ (place 31 x) old) (e₂ : env₂ ≡ set env₁ (place 31 y) z)
     (e₃ : env₃ ≡ set env₂ (function_place 31) (pos 0)) (r : Out) (sl : List ℤ) (he : List ℕ) (en : List ℤ)
@@ -80,7 +80,8 @@ module _ (c : Code) (d : ℕ) (old : ℤ) (k n budget : ℕ) (slots : List ℤ) 
       (e₂ ∙ ap₂ (λ (l : List ℤ) (w : ℤ). set l (place 31 y) w)
       (e₁ ∙ ap₂ (λ (l : List ℤ) (q : ℕ). set l (place 31 q) old) e₀ xe) ze
       ∙ ap (λ (q : ℕ). set (set (levelled n (replicate frame_words (pos 0))) (place 31 (name_at c.operands (h + 1)))
-      old) (place 31 q) (pos k)) ye)))
+      old) (place 31 q) (pos k))
+      (ye ∙ ap (name_at c.operands) (let z : h + 2 ≡ h + 1 + 1 = omega arith in z)))))
       ∙ ap (finished d old) (sym done.is)
 
   pub main_ends : MainEnds (main_on c d old k n budget (store_of slots heads)) budget d old r least (store_of sl he)

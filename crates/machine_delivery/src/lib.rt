@@ -42,7 +42,8 @@ impl Delivery {
     }
 }
 
-// The same before the clearing after a stop, with the steps left.
+// The same before the clearing after a stop, with the steps left. It is no `Delivery`: one field would then mean the
+// steps taken in one place and those left in another.
 #[derive(Clone, Copy)]
 pub struct Attempted {
     pub stopped: Option<Cause>,
@@ -95,7 +96,7 @@ fn work_main(
     let head = machine_code::start_in(table, 0);
     let n = machine_code::name_at(operands, head) as usize;
     let x = machine_code::name_at(operands, head + 1);
-    let y = machine_code::name_at(operands, head + 1 + 1);
+    let y = machine_code::name_at(operands, head + 2);
     machine_frames::bind(&mut env, MAIN_FRAME, x, old);
     machine_frames::bind(&mut env, MAIN_FRAME, y, readings);
     machine_frames::set_function(&mut env, MAIN_FRAME, 0);

@@ -1,6 +1,6 @@
 -- The words of the atoms that follow a line, and the loop that copies them into a frame.
 use Rattle.prelude.specs.Kit.{ℕ, ◌≤◌, ◌+◌, ◌<◌, ◌-◌, min, suc, zero, ◌*◌, ◌%◌, arith, true, false, Bool, cond, ◌≡◌, refl}
-use Rattle.prelude.specs.Kit.{◌∙◌, sym, ap, ap₂, List, [], ◌∷◌, eqb, ℤ, pos, length, get_or, set, length-set}
+use Rattle.prelude.specs.Kit.{◌∙◌, sym, ap, ap₂, List, [], ◌∷◌, eqb, ℤ, pos, length, get_or, set}
 use Rattle.prelude.specs.Kit.{get_or-set_other, lt-ltb, le-ltb}
 use Rattle.machine_code.specs.Reading.{low_bits, name_at, is_atom, atom_at}
 use Rattle.kinds.specs.declared.Atom.{Atom}
@@ -91,7 +91,6 @@ pub record Copying (kinds : List ℕ) (operands : List ℤ) (calls below at name
   pub same : put_named operands below (arguments_within count names kinds operands calls env₀ at) names env₀
       ≡ put_named operands below (arguments_at (8 - i) (count - i) kinds operands calls env (at + i)) (names + i) env
   pub few : i ≤ count
-  pub long : length env ≡ length env₀
 
 pub copying_none : (kinds : List ℕ) (operands : List ℤ) (calls below at names count : ℕ) (env : List ℤ) →
     at + count ≤ length kinds → names + count ≤ length kinds →
@@ -103,7 +102,6 @@ copying_none kinds operands calls below at names count env l h = record {
       ∙ ap (λ (n : ℕ). put_named operands below (arguments_at 8 n kinds operands calls env (at + 0)) (names + 0) env)
       (let z : count ≡ count - 0 = omega arith in z);
   few = omega arith;
-  long = refl;
 }
 
 module _ {kinds : List ℕ} {operands : List ℤ} {calls below at names count : ℕ} {env₀ env : List ℤ} {i : ℕ}
@@ -142,5 +140,4 @@ module _ {kinds : List ℕ} {operands : List ℤ} {calls below at names count : 
         (sym (arguments_same kinds operands calls env p v (omega (arith, pe, xe, b)) (8 - (i + 1)) (count - (i + 1))
         (at + (i + 1))));
     few = omega (arith, inv.few, l);
-    long = length-set env p v ∙ inv.long;
   }

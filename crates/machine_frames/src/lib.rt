@@ -1,6 +1,7 @@
 // The frames and how work ends. The frames are one array: 256 words for each call in progress, main's last, a word for
 // each with the number of its function, and two words for levels: how many cells are free, and the least number that
-// was. `calls` is the call depth left, 31 in main.
+// was. `calls` is the call depth left, 31 in main. Why the frames are one array, lent by a reference to it and
+// not as a slice (time and stack, both measured): docs/DECISIONS.md C28.
 #![tactic(auto)]
 
 pub mod guards;
@@ -104,7 +105,7 @@ pub fn place(calls: usize, x: u8) -> usize
 
 // The word of an atom.
 pub fn word_of(env: &[i64; FRAME_WORDS], calls: usize, a: Atom) -> i64
-    requires { (calls < 32) × (length env.now ≡ frame_words) }
+    requires { calls < 32 }
     ensures { result ≡ word_of calls env.now a }
 {
     match a {
@@ -115,7 +116,7 @@ pub fn word_of(env: &[i64; FRAME_WORDS], calls: usize, a: Atom) -> i64
 
 // Binds a name.
 pub fn bind(env: &mut [i64; FRAME_WORDS], calls: usize, x: u8, w: i64)
-    requires { (calls < 32) × (length env.old ≡ frame_words) }
+    requires { calls < 32 }
     ensures { env.new ≡ set env.old (place calls x) w }
 {
     env[place(calls, x)] = w;
@@ -129,7 +130,7 @@ pub fn bind_result(
     r: Result<Done, Halted>,
     next: usize,
 ) -> Result<Done, Halted>
-    requires { (calls < 32) × (length env.old ≡ frame_words) }
+    requires { calls < 32 }
     ensures { left (shown result) env.new ≡ bound_result calls x next (shown r) env.old }
 {
     let given = r?;
@@ -139,7 +140,7 @@ pub fn bind_result(
 
 // The number of the function that is worked in a frame.
 pub fn function_of(env: &[i64; FRAME_WORDS], calls: usize) -> u8
-    requires { (calls < 32) × (length env.now ≡ frame_words) }
+    requires { calls < 32 }
     ensures { result ≡ function_of calls env.now }
 {
     (machine_code::low_bits(env[FUNCTIONS + calls]) % 256) as u8
@@ -147,7 +148,7 @@ pub fn function_of(env: &[i64; FRAME_WORDS], calls: usize) -> u8
 
 // The element depth of an array by its name, in the function that is worked.
 pub fn element_depth(table: &[u8], env: &[i64; FRAME_WORDS], calls: usize, x: u8) -> u32
-    requires { (calls < 32) × (length env.now ≡ frame_words) }
+    requires { calls < 32 }
     ensures { result ≡ element_depth table.now calls x env.now }
 {
     machine_code::element_depth(table, function_of(env, calls), x)
@@ -155,7 +156,7 @@ pub fn element_depth(table: &[u8], env: &[i64; FRAME_WORDS], calls: usize, x: u8
 
 // Says which function is worked in a frame.
 pub fn set_function(env: &mut [i64; FRAME_WORDS], calls: usize, f: u8)
-    requires { (calls < 32) × (length env.old ≡ frame_words) }
+    requires { calls < 32 }
     ensures { env.new ≡ set env.old (function_place calls) (pos f) }
 {
     env[FUNCTIONS + calls] = f as i64;
@@ -163,7 +164,6 @@ pub fn set_function(env: &mut [i64; FRAME_WORDS], calls: usize, f: u8)
 
 // How many cells are free.
 pub fn level(env: &[i64; FRAME_WORDS]) -> u32
-    requires { length env.now ≡ frame_words }
     ensures { (result ≡ level_of env.now) × (result < 16777216) }
 {
     machine_code::low_bits(env[LEVEL]) as u32
@@ -171,7 +171,6 @@ pub fn level(env: &[i64; FRAME_WORDS]) -> u32
 
 // The least number of free cells so far.
 pub fn lowest(env: &[i64; FRAME_WORDS]) -> u32
-    requires { length env.now ≡ frame_words }
     ensures { (result ≡ lowest_of env.now) × (result < 16777216) }
 {
     machine_code::low_bits(env[LOWEST]) as u32
@@ -179,7 +178,6 @@ pub fn lowest(env: &[i64; FRAME_WORDS]) -> u32
 
 // Says how many cells are free, as never fewer were.
 pub fn set_level(env: &mut [i64; FRAME_WORDS], n: u32)
-    requires { length env.old ≡ frame_words }
     ensures { env.new ≡ levelled n env.old }
 {
     env[LEVEL] = n as i64;
@@ -189,7 +187,6 @@ pub fn set_level(env: &mut [i64; FRAME_WORDS], n: u32)
 // Says how many cells are free after an acquire.
 #[tactic(auto, using(crate::proofs::Levels::noted_lower, crate::proofs::Levels::noted_higher))]
 pub fn note_level(env: &mut [i64; FRAME_WORDS], n: u32)
-    requires { length env.old ≡ frame_words }
     ensures { env.new ≡ noted n env.old }
 {
     let least = lowest(env);
@@ -202,7 +199,7 @@ pub fn note_level(env: &mut [i64; FRAME_WORDS], n: u32)
 // Says that a release freed so many cells.
 #[tactic(auto, using(crate::proofs::Levels::raised_by))]
 pub fn raise_level(env: &mut [i64; FRAME_WORDS], freed: u32)
-    requires { (freed ≤ 256) × (length env.old ≡ frame_words) }
+    requires { freed ≤ 256 }
     ensures { env.new ≡ raised freed env.old }
 {
     let n = level(env);
@@ -231,7 +228,7 @@ pub fn pass_arguments(
     count: usize,
 )
     requires { (at ≤ length kinds.now) × (names ≤ 65536) × (count < 256) × (0 < calls) × (calls < 32)
-        × (length env.old ≡ frame_words) × Cut kinds.now operands.now }
+        × Cut kinds.now operands.now }
     ensures { env.new ≡ put_named operands.now (calls - 1)
         (arguments_within count names kinds.now operands.now calls env.old at) names
         env.old }

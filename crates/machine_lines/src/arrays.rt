@@ -5,7 +5,7 @@ ghost use Rattle.semantics.specs.Machine.{is_count};
 ghost use Rattle.semantics.specs.Words.{store_of};
 ghost use Rattle.store.specs.Acquiring.{appended_all};
 ghost use Rattle.machine_code.specs.Reading.{Cut};
-ghost use Rattle.machine_frames.specs.Frames.{frame_words, word_of, words_at, element_depth};
+ghost use Rattle.machine_frames.specs.Frames.{word_of, words_at, element_depth};
 ghost use Rattle.machine_frames.specs.Work.{memory, shown, Ends};
 ghost use Rattle.machine_lines.specs.Lines.{Appended, elements_by, retained_times, retained_copies};
 ghost use Rattle.machine_lines.specs.Lines.{literal_line, array_made, array_line};
@@ -28,8 +28,7 @@ fn append_atoms(
     c: usize,
     at: usize,
 ) -> usize
-    requires { (at ≤ length kinds.now) × (calls < 32) × (length env.now ≡ frame_words)
-        × Cut kinds.now operands.now }
+    requires { (at ≤ length kinds.now) × (calls < 32) × Cut kinds.now operands.now }
     ensures { Appended (words_at 16 kinds.now operands.now calls env.now at) c result
         (store_of slots.old heads.old) (store_of slots.new heads.new) }
 {
@@ -57,8 +56,7 @@ pub fn work_literal(
     at: usize,
     steps: u64,
 ) -> Result<Done, Halted>
-    requires { (at < length kinds.now) × (calls < 32) × (length env.old ≡ frame_words)
-        × Cut kinds.now operands.now }
+    requires { (at < length kinds.now) × (calls < 32) × Cut kinds.now operands.now }
     ensures { Ends (literal_line kinds.now operands.now calls x depth at steps
         (memory (store_of slots.old heads.old) env.old))
         (shown result) slots.new heads.new env.new }
@@ -93,7 +91,8 @@ fn is_count(n: i64) -> bool
     n >= 0 && n <= 16
 }
 
-// The element at a position: the position itself, or a copy.
+// The element at a position: the position itself, or a copy. `counting` and `w` are no Option: `make_array` hands `w`
+// on to `retain_copies` whichever it is, so an Option would be taken apart there once more.
 fn element(counting: bool, w: i64, n: usize, i: usize) -> i64
     requires { (i < n) × (n < 17) }
     ensures { result ≡ get_or (elements_by counting w n) i (pos 0) }
@@ -147,7 +146,6 @@ fn make_array(
     count: i64,
     steps: u64,
 ) -> Result<Done, Halted>
-    requires { length env.old ≡ frame_words }
     ensures { Ends (array_made counting w depth count steps
         (memory (store_of slots.old heads.old) env.old))
         (shown result) slots.new heads.new env.new }
@@ -179,7 +177,7 @@ pub fn work_iota(
     next: usize,
     steps: u64,
 ) -> Result<Done, Halted>
-    requires { (calls < 32) × (length env.old ≡ frame_words) }
+    requires { calls < 32 }
     ensures { Ends (array_line calls x next true (pos 0) 0 (word_of calls env.old a) steps
         (memory (store_of slots.old heads.old) env.old))
         (shown result) slots.new heads.new env.new }
@@ -202,7 +200,7 @@ pub fn work_replicate(
     next: usize,
     steps: u64,
 ) -> Result<Done, Halted>
-    requires { (calls < 32) × (length env.old ≡ frame_words) }
+    requires { calls < 32 }
     ensures { Ends (array_line calls x next false (word_of calls env.old b)
         (element_depth table.now calls x env.old) (word_of calls env.old a) steps
         (memory (store_of slots.old heads.old) env.old))

@@ -8,7 +8,6 @@ ghost use Rattle.std.specs.Prelude.{◌≡◌, ◌<◌, length};
 ghost use Rattle.semantics.specs.Number.{exact};
 ghost use Rattle.semantics.specs.Words.{store_of};
 ghost use Rattle.words.specs.Words.{exact_outcome, checked};
-ghost use Rattle.machine_frames.specs.Frames.{frame_words};
 ghost use Rattle.machine_code.specs.Reading.{Cut};
 ghost use Rattle.machine_frames.specs.Work.{left, memory, shown, Ends};
 ghost use Rattle.machine_lines.specs.Lines.{operation_of, operation_line, index_line, length_line, leaf};
@@ -41,7 +40,7 @@ fn work_operation(
     next: usize,
     steps: u64,
 ) -> Result<Done, Halted>
-    requires { (calls < 32) × (length env.old ≡ frame_words) }
+    requires { calls < 32 }
     ensures { left (shown result) env.new ≡ operation_line calls kind x a b next steps env.old }
 {
     if steps == 0 {
@@ -68,7 +67,7 @@ fn work_index(
     next: usize,
     steps: u64,
 ) -> Result<Done, Halted>
-    requires { (calls < 32) × (length env.old ≡ frame_words) }
+    requires { calls < 32 }
     ensures { left (shown result) env.new
         ≡ index_line (store_of slots.now heads.now) calls x a b next steps env.old }
 {
@@ -96,7 +95,7 @@ fn work_length(
     next: usize,
     steps: u64,
 ) -> Result<Done, Halted>
-    requires { (calls < 32) × (length env.old ≡ frame_words) }
+    requires { calls < 32 }
     ensures { left (shown result) env.new
         ≡ length_line (store_of slots.now heads.now) calls x a next steps env.old }
 {
@@ -122,8 +121,7 @@ pub fn work_leaf(
     at: usize,
     steps: u64,
 ) -> Result<Done, Halted>
-    requires { (at < length kinds.now) × (calls < 32) × (length env.old ≡ frame_words)
-        × Cut kinds.now operands.now }
+    requires { (at < length kinds.now) × (calls < 32) × Cut kinds.now operands.now }
     ensures { Ends (leaf kinds.now operands.now table.now calls at steps
         (memory (store_of slots.old heads.old) env.old) l)
         (shown result) slots.new heads.new env.new }

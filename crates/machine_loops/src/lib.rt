@@ -6,7 +6,7 @@ ghost use Rattle.std.specs.Prelude.{◌≡◌, map, ◌+◌, ◌<◌, pos, get_o
 ghost use Rattle.semantics.specs.Store.{cell, cell_of, elements};
 ghost use Rattle.semantics.specs.Words.{store_of};
 ghost use Rattle.semantics.specs.Machine.{looped_over};
-ghost use Rattle.machine_frames.specs.Frames.{frame_words, place, word_of, element_depth};
+ghost use Rattle.machine_frames.specs.Frames.{place, word_of, element_depth};
 ghost use Rattle.machine_frames.specs.Work.{memory, shown, Ends};
 ghost use Rattle.machine_lines.specs.Lines.{kind_of, first_name, second_name, atoms_of};
 ghost use Rattle.machine_loops.specs.Loops.{way_of, begun_frames, retained_if, kept};
@@ -44,7 +44,7 @@ pub struct Passes {
 
 // The word of the array that a loop goes over.
 fn array_word(env: &[i64; FRAME_WORDS], calls: usize, l: Loop) -> i64
-    requires { (calls < 32) × (length env.now ≡ frame_words) }
+    requires { calls < 32 }
     ensures { result ≡ looped_over (kind_of l) (map (word_of calls env.now) (atoms_of l)) }
 {
     match l {
@@ -107,7 +107,6 @@ fn acquire_result(
     env: &mut [i64; FRAME_WORDS],
     depth: u32,
 ) -> Option<i64>
-    requires { length env.old ≡ frame_words }
     ensures { NewCarries depth
         (memory (store_of slots.old heads.old) env.old)
         slots.new heads.new env.new result }
@@ -127,7 +126,7 @@ fn carry_first(
     l: Loop,
     depth: u32,
 ) -> Option<i64>
-    requires { (calls < 32) × (length env.old ≡ frame_words) }
+    requires { calls < 32 }
     ensures { Carries (kind_of l) depth (map (word_of calls env.old) (atoms_of l))
         (memory (store_of slots.old heads.old) env.old)
         slots.new heads.new env.new result }
@@ -156,7 +155,7 @@ pub fn begin_loop(
     x: u8,
     l: Loop,
 ) -> Option<Passes>
-    requires { (calls < 32) × (length env.old ≡ frame_words) }
+    requires { calls < 32 }
     ensures { Begins (kind_of l) (first_name l) (second_name l)
         (element_depth table.now calls x env.old)
         (map (word_of calls env.old) (atoms_of l))
@@ -190,13 +189,12 @@ pub fn begin_pass(
     v: i64,
     i: usize,
 )
-    requires { (calls < 32) × (length env.old ≡ frame_words) × Within slots.now heads.now l.from }
+    requires { (calls < 32) × Within slots.now heads.now l.from }
     ensures { env.new ≡ begun_frames calls l.first l.second v
         (get_or (elements (cell (store_of slots.now heads.now) l.from)) i (pos 0))
         env.old }
 {
-    let from = l.from;
-    let w = store_words::read_slot_within(slots, heads, from, i);
+    let w = store_words::read_slot_within(slots, heads, l.from, i);
     machine_frames::bind(env, calls, l.first, v);
     machine_frames::bind(env, calls, l.second, w);
 }
@@ -235,8 +233,7 @@ pub fn end_pass(
     i: usize,
     r: i64,
 ) -> Option<i64>
-    requires { (calls < 32) × (length env.now ≡ frame_words)
-        × ResultWithin l.way slots.old heads.old (cell_of l.carried) }
+    requires { (calls < 32) × ResultWithin l.way slots.old heads.old (cell_of l.carried) }
     ensures { CarriesOn l.way (cell_of l.carried) v i
         (get_or env.now (place calls l.first) (pos 0)) r
         (store_of slots.old heads.old) (store_of slots.new heads.new) result }
@@ -265,7 +262,6 @@ pub fn end_pass(
 
 // Releases the array of a loop after its passes, if the way says so.
 fn release_array(slots: &mut [i64], heads: &mut [u32], env: &mut [i64; FRAME_WORDS], l: Passes)
-    requires { length env.old ≡ frame_words }
     ensures { memory (store_of slots.new heads.new) env.new
         ≡ loop_ended l.way l.from
         (memory (store_of slots.old heads.old) env.old) }
@@ -287,7 +283,7 @@ pub fn end_loop(
     r: Result<Done, Halted>,
     next: usize,
 ) -> Result<Done, Halted>
-    requires { (calls < 32) × (length env.old ≡ frame_words) }
+    requires { calls < 32 }
     ensures { Ends (loop_bound l.way l.from calls x next (shown r)
         (memory (store_of slots.old heads.old) env.old))
         (shown result) slots.new heads.new env.new }

@@ -43,6 +43,7 @@ fn read_values(saved: &[u8], k: usize, depth: u32, count: u8, p: usize) -> Optio
 pub const MOST_ENTRIES: usize = 4096;
 
 // Whether a file holds a value of a depth.
+#[tactic(auto, using(crate::proofs::Laws::tested))]
 pub fn is_readable(saved: &[u8], depth: u32) -> bool
     ensures { result ≡ readable depth saved.now }
 {
@@ -53,8 +54,5 @@ pub fn is_readable(saved: &[u8], depth: u32) -> bool
     if MOST_ENTRIES < k || saved.len() != 3 + 9 * k {
         return false;
     }
-    match read_value(saved, k, depth, 0) {
-        Some(next) => next == k,
-        None => false,
-    }
+    read_value(saved, k, depth, 0) == Some(k)
 }

@@ -1,10 +1,12 @@
 -- The ways out of writing.
-use Rattle.prelude.specs.Kit.{ℕ, ◌≤◌, ◌+◌, ◌<◌, ◌-◌, suc, ◌*◌, ◌%◌, min, ◌/◌, arith, ◌≡◌, refl, ◌∙◌, sym, ap, ◌≢◌, List}
+use Rattle.prelude.specs.Kit.{ℕ, ◌≤◌, ◌+◌, ◌<◌, ◌-◌, suc, ◌*◌, ◌%◌, ◌/◌, arith, ◌≡◌, refl, ◌∙◌, sym, ap, ◌≢◌, List}
 use Rattle.prelude.specs.Kit.{[], ◌∷◌, ◌++◌, ℤ, pos, length, get_or, set, drop, length-append, drop_of_length-le}
-use Rattle.prelude.specs.Kit.{drop-cons, sets, lt-ltb, le-ltb}
+use Rattle.prelude.specs.Kit.{drop-cons, sets, lt-ltb, le-ltb, zero, Bool, true, false, cond, leb, le-leb, lt-leb, leb-true}
+use Rattle.prelude.specs.Kit.{leb-false}
+use Rattle.std.specs.Prelude.{Some, None}
 use Rattle.semantics.specs.Store.{Store, cell, cell_of, elements}
 use Rattle.semantics.specs.Saved.{Entry, unsigned, low_bytes}
-use Rattle.saved_write.specs.Writing.{entry, gather, entries_at, Written, written, put_entry, put_entries}
+use Rattle.saved_write.specs.Writing.{entry, gather, entries_at, counted, Written, written, put_entry, put_entries}
 
 -- ---- bytes
 
@@ -54,10 +56,42 @@ array_entries σ d w h = ap (λ (j : ℕ). entries_at σ j w) (let e : d ≡ suc
 
 -- ---- counting
 
+pub counted_some : (k m : ℕ) → Some k ≡ counted m → (k ≡ m) × (k ≤ 4096)
+unfolding counted
+counted_some k m e = by (leb m 4096) refl e
+  where
+    by : (t : Bool) → leb m 4096 ≡ t → Some k ≡ cond t (Some m) None → (k ≡ m) × (k ≤ 4096)
+    by true f g = let same : k ≡ m = cc in (same, omega (arith, same, leb-true m 4096 f))
+    by false f g = absurd (let z : ◌≡◌ {A = ℕ} 0 1 = cc in omega arith)
+
+pub counted_none : (m : ℕ) → None ≡ counted m → 4096 < m
+unfolding counted
+counted_none m e = by (leb m 4096) refl e
+  where
+    by : (t : Bool) → leb m 4096 ≡ t → None ≡ cond t (Some m) None → 4096 < m
+    by true f g = absurd (let z : ◌≡◌ {A = ℕ} 0 1 = cc in omega arith)
+    by false f g = leb-false m 4096 f
+
+few_counted : (m : ℕ) → m ≤ 4096 → Some m ≡ counted m
+unfolding counted
+few_counted m h = rw (le-leb m 4096 h) refl
+
+many_counted : (m : ℕ) → 4096 < m → None ≡ counted m
+unfolding counted
+many_counted m h = rw (lt-leb m 4096 h) refl
+
+entries_some : (σ : Store) (d : ℕ) (w : ℤ) → 0 < length (entries_at σ d w)
+unfolding entries_at
+entries_some σ zero w = omega arith
+entries_some σ (suc d) w = omega arith
+
+pub full : (σ : Store) (d : ℕ) (w : ℤ) (n : ℕ) → 4096 ≤ n → None ≡ counted (n + length (entries_at σ d w))
+full σ d w n h = many_counted _ (omega (arith, h, entries_some σ d w))
+
 module _ (σ : Store) (d : ℕ) (w : ℤ) (n : ℕ) where
-  pub count_number : d ≡ 0 → (m : ℕ) → m ≡ min (n + 1) 4097 → m ≡ min 4097 (n + length (entries_at σ d w))
+  pub count_number : n < 4096 → d ≡ 0 → Some (n + 1) ≡ counted (n + length (entries_at σ d w))
   unfolding entries_at
-  count_number e m f = f ∙ rw (e, entries_at) (omega arith)
+  count_number h e = rw (e, entries_at) (few_counted (n + 1) (omega (arith, h)))
 
   abbrev words : List ℤ
   words = elements (cell σ (cell_of w))
@@ -65,27 +99,37 @@ module _ (σ : Store) (d : ℕ) (w : ℤ) (n : ℕ) where
   abbrev inside : ℤ → List Entry
   inside = entries_at σ (d - 1)
 
-  -- what is counted, of r entries before those of the words from i on
+  -- r entries are counted, before those of the words from i on
   abbrev pub Counting : ℕ → ℕ → Type 0
-  Counting r i = min 4097 (n + length (entries_at σ d w)) ≡ min 4097 (r + length (gather inside (drop i words)))
+  Counting r i = n + length (entries_at σ d w) ≡ r + length (gather inside (drop i words))
 
-  pub count_starts : d ≢ 0 → (m : ℕ) → m ≡ min (n + 1) 4097 → Counting m 0
-  count_starts h m f = omega (arith, f, ap length (array_entries σ d w h))
+  pub count_starts : d ≢ 0 → Counting (n + 1) 0
+  count_starts h = omega (arith, ap length (array_entries σ d w h))
 
-  pub count_goes : (r i : ℕ) → Counting r i → r ≤ 4097 → i < length words → (u : ℤ) → u ≡ get_or words i (pos 0) →
-      (m : ℕ) → m ≡ min 4097 (r + length (inside u)) → Counting m (i + 1)
-  count_goes r i inv few h u e m f = omega (
-    arith,
-    inv,
-    f,
-    ap length (gather_next inside words i h),
-    length-append (inside (get_or words i (pos 0))) (gather inside (drop (i + 1) words)),
-    ap (λ (y : ℤ). length (inside y)) e,
-  )
+  module _ (r i : ℕ) (inv : Counting r i) where
+    -- the entries of the next word, and of those after it
+    module _ (h : i < length words) (u : ℤ) (e : u ≡ get_or words i (pos 0)) where
+      turn : Counting (r + length (inside u)) (i + 1)
+      turn = omega (
+        arith,
+        inv,
+        ap length (gather_next inside words i h),
+        length-append (inside (get_or words i (pos 0))) (gather inside (drop (i + 1) words)),
+        ap (λ (y : ℤ). length (inside y)) e,
+      )
 
-  pub count_ends : (r i : ℕ) → Counting r i → r ≤ 4097 → length words ≤ i →
-      r ≡ min 4097 (n + length (entries_at σ d w))
-  count_ends r i inv few h = omega (arith, inv, ap length (gather_end inside words i h))
+      pub count_goes : (m : ℕ) → Some m ≡ counted (r + length (inside u)) → (m ≤ 4096) × Counting m (i + 1)
+      count_goes m f =
+          let s = counted_some m (r + length (inside u)) f in
+          (s.1, omega (arith, turn, s.0))
+
+      pub count_stops : None ≡ counted (r + length (inside u)) → None ≡ counted (n + length (entries_at σ d w))
+      count_stops f = many_counted _ (omega (arith, turn, counted_none (r + length (inside u)) f))
+
+    pub count_ends : r ≤ 4096 → length words ≤ i → Some r ≡ counted (n + length (entries_at σ d w))
+    count_ends few h =
+        let all : r ≡ n + length (entries_at σ d w) = omega (arith, inv, ap length (gather_end inside words i h)) in
+        ap Some all ∙ few_counted _ (omega (arith, few, all))
 
 -- ---- writing
 

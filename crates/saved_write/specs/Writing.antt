@@ -1,5 +1,6 @@
 -- The entries of a word in a store, and the file that they are put into one after another.
-use Rattle.std.specs.Prelude.{ℕ, zero, suc, ◌+◌, ◌*◌, Bool, true, false, cond, List, [], ◌∷◌, ◌++◌, ℤ, pos, length, set, replicate, ltb}
+use Rattle.std.specs.Prelude.{ℕ, zero, suc, ◌+◌, ◌*◌, Bool, true, false, cond, List, [], ◌∷◌, ◌++◌, ℤ, pos, length}
+use Rattle.std.specs.Prelude.{set, replicate, ltb, leb, Option, Some, None}
 use Rattle.std.proofs.lemmas.List.Edits.{sets}
 use Rattle.semantics.specs.Store.{Store, cell, cell_of, elements}
 use Rattle.semantics.specs.Saved.{Entry, unsigned, low_bytes, entry_count, saved_bytes, save_fits}
@@ -19,6 +20,10 @@ entries_at σ zero w = entry 0 w ∷ []
 entries_at σ (suc d) w =
     entry (suc (length (elements (cell σ (cell_of w))))) (pos 0)
     ∷ gather (entries_at σ d) (elements (cell σ (cell_of w)))
+
+-- so many entries, if a file has as many
+unfoldable pub counted : ℕ → Option ℕ
+counted k = cond (leb k 4096) (Some k) None
 
 -- the next entry's number, and the bytes
 pub record Written : Type 0 where

@@ -1,11 +1,11 @@
 // The totals of a store written to a saved file: the entries are counted, then marks and numbers are written.
 #![tactic(auto)]
 
-ghost use Rattle.std.specs.Prelude.{◌≡◌, ◌+◌, ◌≤◌, min, length, set};
+ghost use Rattle.std.specs.Prelude.{◌≡◌, ◌+◌, ◌≤◌, length, set};
 ghost use Rattle.std.proofs.lemmas.List.Edits.{sets};
 ghost use Rattle.semantics.specs.Words.{store_of};
 ghost use Rattle.semantics.specs.Saved.{unsigned, low_bytes};
-ghost use Rattle.saved_write.specs.Writing.{entry, entries_at, written, put_entry, put_entries};
+ghost use Rattle.saved_write.specs.Writing.{entry, entries_at, counted, written, put_entry, put_entries};
 ghost use Rattle.saved_write.specs.Writing.{totals_saved, saving};
 
 // A signed number as an unsigned one with the same bits.
@@ -50,27 +50,27 @@ fn put_entry(saved: &mut [u8], k: usize, p: usize, mark: u8, number: i64) -> usi
     p + 1
 }
 
-// How many entries a file has at most, and the number that stands for more.
+// How many entries a file has at most.
 const MOST_ENTRIES: usize = 4096;
 
-const TOO_MANY: usize = 4097;
-
-// The entries of a word of a depth, added to those before; at most 4,097.
-fn count_value(slots: &[i64], heads: &[u32], w: i64, depth: u32, n: usize) -> usize
-    requires { n ≤ 4097 }
-    ensures { result
-        ≡ min 4097 (n + length (entries_at (store_of slots.now heads.now) depth w)) }
+// The entries of a word of a depth, added to those before, if a file has so many.
+#[tactic(auto, using(crate::proofs::Laws::full))]
+fn count_value(slots: &[i64], heads: &[u32], w: i64, depth: u32, n: usize) -> Option<usize>
+    ensures { result ≡ counted (n + length (entries_at (store_of slots.now heads.now) depth w)) }
 {
-    let mut counted = (n + 1).min(TOO_MANY);
+    if MOST_ENTRIES <= n {
+        return None;
+    }
+    let mut counted = n + 1;
     if depth == 0 {
-        return counted;
+        return Some(counted);
     }
     let c = store_words::named_cell(w);
     for i in 0..store_words::read_length(slots, heads, c) {
         let e = store_words::read_slot(slots, heads, c, i);
-        counted = count_value(slots, heads, e, depth - 1, counted);
+        counted = count_value(slots, heads, e, depth - 1, counted)?;
     }
-    counted
+    Some(counted)
 }
 
 // The entries of a word of a depth, from entry p of k on; the number of the next.
@@ -110,11 +110,10 @@ pub fn write_totals(slots: &[i64], heads: &[u32], saved: &mut [u8], depth: u32) 
         ≡ totals_saved depth (store_of slots.now heads.now) saved.old }
 {
     let w = words::get_or(slots, 0, 0);
-    let k = count_value(slots, heads, w, depth, 0);
     saved.fill(0);
-    if MOST_ENTRIES < k {
+    let Some(k) = count_value(slots, heads, w, depth, 0) else {
         return false;
-    }
+    };
     if saved.len() < 3 + 9 * k {
         return false;
     }

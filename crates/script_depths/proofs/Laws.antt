@@ -8,7 +8,6 @@ use Rattle.semantics.specs.Basics.{updated}
 use Rattle.semantics.specs.Outcome.{done, stop}
 use Rattle.semantics.specs.File.{at_part, look, part_count}
 use Rattle.script_read.specs.Told.{node_outcome, parted, loops, second_name, AtomSeen}
-use Rattle.script_read.specs.declared.Node.{Node}
 use Rattle.script_read.specs.declared.Misfit.{Misfit}
 use Rattle.script_read.specs.declared.Atomic.TheVariants.{Number, Name}
 use Rattle.script_read.proofs.Nodes.{Seen, fitting, fitting_inside, unfit, get_d_any}

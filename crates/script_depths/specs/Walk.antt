@@ -10,9 +10,11 @@ use Rattle.semantics.specs.Outcome.{Outcome, done, stop}
 use Rattle.semantics.specs.File as S
 use Rattle.semantics.specs.File.{at_part, node_at, part_count}
 use Rattle.semantics.specs.Types.{Rule, Signature}
-use Rattle.script_read.specs.Told.{loops, second_name}
+use Rattle.script_read.specs.Told.{loops, second_name, node_outcome, parted}
 use Rattle.script_read.specs.Table.{table}
 use Rattle.script_read.specs.declared.Fault.{Fault}
+use Rattle.script_read.specs.declared.Misfit.{Misfit}
+use Rattle.script_read.specs.declared.Node.{Node}
 use Rattle.script_rules.specs.Rules.{signature_of, known_signature, rule_of, loop_ruled}
 use Rattle.script_depths.specs.declared.Typed.{Typed}
 
@@ -27,6 +29,12 @@ known_depth d = cond (eqb d 255) None (Some d)
 -- the fault of a node that breaks rule 7
 abbrev pub mismatch_at : ℕ → Fault
 mismatch_at p = record { refusal = TypeMismatch; node = p }
+
+-- the node that stands at a place, or the fault where none fits, and how it does not
+abbrev pub Fitting : List ℕ → List ℕ → S.Place → ℕ → Result Node Fault → Type 0
+Fitting k w place p (Ok n) = node_outcome (Ok n) p ≡ parted (S.look k w place p)
+Fitting k w place p (Err f) =
+    (f ≡ mismatch_at p) × ((m : Misfit) × (node_outcome (Err m) p ≡ parted (S.look k w place p)))
 
 -- document 01's number and values for each case: a depth and the next node, or a refusal's number and the node
 abbrev pub typed_outcome : Result Typed Fault → Outcome ℕ ℕ

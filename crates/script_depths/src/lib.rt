@@ -1,18 +1,20 @@
 // Refusals 6 and 7 of a part: its depth, or a node that breaks one of the rules.
 // One table of the depths of the 256 names is changed at a let or a loop and put back after it; a name that is not
-// known has the entry UNKNOWN, which is no depth. An entry is one byte: a table is cleared for each function.
+// known has the entry UNKNOWN, which is no depth. A table is cleared for each function.
 #![tactic(auto)]
 
 ghost use Rattle.std.specs.Prelude.{◌≡◌, ◌+◌, ◌<◌, ◌≤◌, length, get_or};
 ghost use Rattle.semantics.specs.File.{low_limits, high_limits};
 ghost use Rattle.semantics.specs.Outcome.{done};
+ghost use Rattle.script_read.specs.Told.{place_of};
 ghost use Rattle.script_depths.specs.Walk.{depths, let_typed, start_typed, loop_ended, loop_typed, known_plain};
-ghost use Rattle.script_depths.specs.Walk.{known_types, AtomTyped, typed_outcome, known_depth, mismatch_at};
+ghost use Rattle.script_depths.specs.Walk.{known_types, AtomTyped, typed_outcome, known_depth, mismatch_at, Fitting};
 
 use answers::Refusal;
 use script_read::{Atomic, Fault, Node, Place};
 
-// The entry of a name that is not known.
+// The entry of a name that is not known. It is a number and no Option: `known_depth` states it, and an entry is one
+// byte.
 pub const UNKNOWN: u8 = 255;
 
 // The depth of a part, and the node after it.
@@ -30,6 +32,14 @@ pub fn mismatch(node: usize) -> Fault
         refusal: Refusal::TypeMismatch,
         node,
     }
+}
+
+// The node that stands at a place, or the fault where none fits. Inline, as `script_read::fitting_node`.
+#[inline(always)]
+pub fn fitting_node(kinds: &[u8], operands: &[u8], at: usize, place: Place) -> Result<Node, Fault>
+    ensures { Fitting kinds.now operands.now (place_of place) at result }
+{
+    script_read::node_at(kinds, operands, at, place).map_err(|_| mismatch(at))
 }
 
 // The depth that a table has for a name, if the name is known.
@@ -89,21 +99,19 @@ fn type_part(
     if levels == 0 {
         return Err(mismatch(at));
     }
-    let Ok(node) = script_read::node_at(kinds, operands, at, Place::Part) else {
-        return Err(mismatch(at));
-    };
+    let node = fitting_node(kinds, operands, at, Place::Part)?;
     match node.kind {
         kinds::NUMBER => Ok(Typed {
             depth: 0,
             next: at + 1,
         }),
-        kinds::NAME => match known(table, node.low) {
-            Some(depth) => Ok(Typed {
+        kinds::NAME => {
+            let depth = known(table, node.low).ok_or(mismatch(at))?;
+            Ok(Typed {
                 depth,
                 next: at + 1,
-            }),
-            None => Err(mismatch(at)),
-        },
+            })
+        }
         kinds::LET => type_let(kinds, operands, starts, table, at + 1, node.low, levels - 1),
         kind if script_read::is_loop(kind) => {
             type_loop(kinds, operands, starts, table, at, node, levels - 1)

@@ -36,9 +36,7 @@ fn type_parameters(
 {
     let mut p = at;
     for _ in 0..count {
-        let Ok(node) = script_read::node_at(kinds, operands, p, Place::Parameter) else {
-            return Err(script_depths::mismatch(p));
-        };
+        let node = script_depths::fitting_node(kinds, operands, p, Place::Parameter)?;
         let x = node.low as usize;
         let d = table[x];
         if d != UNKNOWN {
@@ -59,9 +57,7 @@ fn type_function(
 ) -> Result<usize, Fault>
     ensures { read_of result ≡ known_function kinds.now operands.now starts.now at }
 {
-    let Ok(node) = script_read::node_at(kinds, operands, at, Place::Function) else {
-        return Err(script_depths::mismatch(at));
-    };
+    let node = script_depths::fitting_node(kinds, operands, at, Place::Function)?;
     let mut table = [UNKNOWN; 256];
     let body = type_parameters(kinds, operands, starts, &mut table, at + 1, node.low)?;
     if body.depth != node.high {

@@ -32,7 +32,13 @@ fn put_parameters(
 {
     for i in (0..count as usize).rev() {
         let d = script_read::high_at(kinds, operands, at + i, Place::Parameter);
-        w = annotate_rows::put_row(ks, os, w, kinds::PARAMETER, i as u32 + 256 * u32::from(d));
+        w = annotate_rows::put_row(
+            ks,
+            os,
+            w,
+            kinds::PARAMETER,
+            u32::from_le_bytes([i as u8, d, 0, 0]),
+        );
     }
     w
 }
@@ -53,13 +59,13 @@ fn put_head(
     let count = script_read::low_at(kinds, operands, at, Place::Function);
     let result = script_read::high_at(kinds, operands, at, Place::Function);
     let v = put_parameters(ks, os, kinds, operands, at + 1, count, w);
-    let n = u32::from(count) + 256 * u32::from(result);
+    let n = u32::from_le_bytes([count, result, 0, 0]);
     annotate_rows::put_row(ks, os, v, kinds::FUNCTION, n)
 }
 
 // The depths of the names of function f, but 0 for those of its n parameters that it borrows.
 fn owned_depths(depths: &[u8; 256], borrowing: &[[bool; 8]; 32], f: usize, n: usize) -> [u8; 256]
-    requires { (f < 32) × ((n ≤ 8) × (length depths.now ≡ 256)) }
+    requires { (f < 32) × (n ≤ 8) }
     ensures { depth_in result ≡ owned_of borrowing.now f n (depth_in depths.now) }
 {
     let mut owned = *depths;
@@ -88,7 +94,7 @@ fn function_code(
     w: usize,
 ) -> usize
     requires fitting { Fitting kinds.now operands.now results.now at × (Room ks.old os.old w × (f < 32)) }
-    requires rows_len { (length rows.old ≡ 2048) × ((length notes.old ≡ 2048) × (depths.old ≡ replicate 256 0)) }
+    requires depths_value { depths.old ≡ replicate 256 0 }
     ensures wrote { Wrote ks.old os.old ks.new os.new w result
         (rows_by (λ f. get_or results.now f 0) borrowing.now f
         (read_function kinds.now operands.now at)) }

@@ -16,8 +16,8 @@ loop-f-init c =
       t,
       rw t.reads at c.requires.resulting_by,
       gather_begin t.tree _ refl (known t).1.1,
-      c.requires.rows_len.0,
-      c.requires.rows_len.1,
+      omega arith,
+      omega arith,
     )
 
 pub lay_function-q-requires-clause-fitting : goal.lay_function-q-requires-clause-fitting

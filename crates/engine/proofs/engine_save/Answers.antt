@@ -1,5 +1,7 @@
 -- `engine_save`: the totals of a loaded script's store in the buffer, or the answer of a refusal.
+use Rattle.prelude.specs.Kit.{◌∙◌}
 use Rattle.semantics.specs.SaveCalls.{engine_save}
+use Rattle.clearing.proofs.Clearing.{cleared_whole}
 use Rattle.engine.proofs.Laws.{shallow}
 use Rattle.engine.proofs.SaveLaws.{saves_refused, saves_told}
 use Rattle.engine.proofs.engine_save.Goals as goal
@@ -22,4 +24,4 @@ unfolding engine_save
 returns-in-Err c =
     let a = c.args in
     saves_refused a.kinds.now a.operands.now a.slots.now a.heads.now a.saved.now c.in-Err.ensures
-    c.fill.new.self (c.fill.ensures.after (λ y e. e))
+    c.clear_from.new.items (c.clear_from.ensures ∙ cleared_whole a.saved.now 0)

@@ -1,5 +1,5 @@
 -- The function's tree is laid after its parameters are bound.
-use Rattle.prelude.specs.Kit.{ap, length}
+use Rattle.prelude.specs.Kit.{arith, ap, length}
 use Rattle.flatten_functions.proofs.Whole.{given, ready, function_laid}
 use Rattle.flatten_functions.proofs.lay_function.Goals as goal
 
@@ -11,7 +11,7 @@ lay_tree-tree-requires c =
     let bound = c.bind_parameters.ensures in (
       given a.kinds.now a.operands.now a.results.now a.at r.fitting bound.long.0,
       ready a.kinds.now a.operands.now a.results.now a.at r.fitting count.result count.ensures bound
-          r.rows_len.0 r.rows_len.1 (ap length r.last_value.0),
+          (omega arith) (omega arith) (ap length r.last_value.0),
     )
 
 pub returns : goal.returns

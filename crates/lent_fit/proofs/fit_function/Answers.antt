@@ -8,7 +8,7 @@ returns-in_err-tree c =
     let a = c.args in
     let p = err_from_is_err_and c.from_residual.result c.from_residual.ensures.1 in
     rw (p.1, p.2) (
-      function_stops a.kinds.now a.operands.now a.starts.now a.at a.depths.now c.requires.2 _ c.first_at-n.ensures _
+      function_stops a.kinds.now a.operands.now a.starts.now a.at a.depths.now c.requires.1 _ c.first_at-n.ensures _
           c.in_err-tree.ensures.is c.fit_parameters.new.depths,
       c.fit_parameters.ensures.deep,
     )
@@ -16,7 +16,7 @@ returns-in_err-tree c =
 pub returns : goal.returns
 returns c =
     let a = c.args in (
-      function_tree a.kinds.now a.operands.now a.starts.now a.at a.depths.now c.requires.2 _ c.first_at-n.ensures _ _ _
+      function_tree a.kinds.now a.operands.now a.starts.now a.at a.depths.now c.requires.1 _ c.first_at-n.ensures _ _ _
           c.in_ok-tree.ensures.is _ c.second_at-result.ensures _ _ _ c.fit_tree.ensures.is,
       c.fit_tree.ensures.deep,
     )

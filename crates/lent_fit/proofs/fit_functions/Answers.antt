@@ -21,7 +21,7 @@ pub loop-f-preserved : goal.loop-f-preserved
 loop-f-preserved c =
     fitting_goes _ _ _ _ _ c.loop-f.invariant (omega arith) (omega arith) _ c.in_ok-p.field-0 c.in_ok-p.ensures.0 _
     c.lay.ensures
-    c.requires.2
+    c.requires.1
 
 pub returns : goal.returns
 returns c = fitting_ends _ _ _ _ _ c.loop-f.invariant (omega arith)

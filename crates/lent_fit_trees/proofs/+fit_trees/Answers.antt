@@ -1,5 +1,6 @@
 -- Trees, lines, ifs and loops, by the laws of `Laws`.
-use Rattle.prelude.specs.Kit.{arith, ◌∙◌, sym, ap, length, get_or, length-set}
+use Rattle.prelude.specs.Kit.{arith, ◌≡◌, ◌∙◌, sym, ap, length, get_or, length-set}
+use Rattle.std.specs.Prelude.{Some, None}
 use Rattle.std.proofs.lemmas.Result.{err_from_is_err_and}
 use Rattle.lent_fit_lines.specs.Walk.{set_of, first_at}
 use Rattle.lent_fit_trees.specs.Trees.{tree_fits}
@@ -95,48 +96,58 @@ fit_line-returns-else-loops t c =
 
 -- ---- loops
 
-pub fit_loop-returns-in_default : goal.fit_loop-returns-in_default
-fit_loop-returns-in_default t c =
+pub fit_loop-returns-in_err-first : goal.fit_loop-returns-in_err-first
+fit_loop-returns-in_err-first t c =
     let a = c.args in
     let T = tree_fits a.kinds.now a.operands.now a.starts.now a.levels in
-    record {
-      is = loop_closed a.kinds.now a.operands.now a.starts.now T _ _ _ _ _ _ _ c.in_default.ensures;
+    let closed : c.open_loop.result ≡ None = grind arith in
+    let p = err_from_is_err_and c.from_residual.result c.from_residual.ensures.1 in
+    let fault : p.0 ≡ record { line = a.at } = grind arith in
+    rw (p.1, fault) (record {
+      is = loop_closed a.kinds.now a.operands.now a.starts.now T _ _ _ _ _ _ _ (rw closed at c.open_loop.ensures);
       long = c.open_loop.ensures.long;
       deep = c.open_loop.ensures.deep;
-    }
+    })
 
 pub fit_loop-returns-in_err-tree : goal.fit_loop-returns-in_err-tree
 fit_loop-returns-in_err-tree t c =
     let a = c.args in
     let T = tree_fits a.kinds.now a.operands.now a.starts.now a.levels in
-    let p = err_from_is_err_and c.from_residual.result c.from_residual.ensures.1 in
+    let opened : c.open_loop.result ≡ Some c.in_ok-first.first = grind arith in
+    let p = err_from_is_err_and c.from_residual-in_err-tree.result c.from_residual-in_err-tree.ensures.1 in
     rw (p.1, p.2) (record {
-      is = loop_tree a.kinds.now a.operands.now a.starts.now T _ _ _ _ _ _ _ _ c.in-Some.ensures _
+      is = loop_tree a.kinds.now a.operands.now a.starts.now T _ _ _ _ _ _ _ _ (rw opened at c.open_loop.ensures) _
           c.loop_wants-wants.ensures _ c.loop_atoms.ensures _ c.in_err-tree.ensures.is;
       long = c.fit_tree.ensures.long;
       deep = c.fit_tree.ensures.deep;
     })
 
-pub fit_loop-returns-in_default-loop_depth : goal.fit_loop-returns-in_default-loop_depth
-fit_loop-returns-in_default-loop_depth t c =
+pub fit_loop-returns-in_err-depth : goal.fit_loop-returns-in_err-depth
+fit_loop-returns-in_err-depth t c =
     let a = c.args in
     let T = tree_fits a.kinds.now a.operands.now a.starts.now a.levels in
-    record {
-      is = loop_broken a.kinds.now a.operands.now a.starts.now T _ _ _ _ _ _ _ _ c.in-Some.ensures _
+    let opened : c.open_loop.result ≡ Some c.in_ok-first.first = grind arith in
+    let broken : c.loop_depth.result ≡ None = grind arith in
+    let p = err_from_is_err_and c.from_residual-in_err-depth.result c.from_residual-in_err-depth.ensures.1 in
+    let fault : p.0 ≡ record { line = c.in_ok-tree.tree.next } = grind arith in
+    rw (p.1, fault) (record {
+      is = loop_broken a.kinds.now a.operands.now a.starts.now T _ _ _ _ _ _ _ _ (rw opened at c.open_loop.ensures) _
           c.loop_wants-wants.ensures _ c.loop_atoms.ensures _ _ _ c.in_ok-tree.ensures.is
-          c.in_default-loop_depth.ensures;
+          (rw broken at c.loop_depth.ensures);
       long = c.fit_tree.ensures.long;
       deep = c.fit_tree.ensures.deep;
-    }
+    })
 
 pub fit_loop-returns : goal.fit_loop-returns
 fit_loop-returns t c =
     let a = c.args in
     let T = tree_fits a.kinds.now a.operands.now a.starts.now a.levels in
+    let opened : c.open_loop.result ≡ Some c.in_ok-first.first = grind arith in
+    let judged : c.loop_depth.result ≡ Some c.in_ok-depth.depth = grind arith in
     record {
-      is = loop_done a.kinds.now a.operands.now a.starts.now T _ _ _ _ _ _ _ _ c.in-Some.ensures _
+      is = loop_done a.kinds.now a.operands.now a.starts.now T _ _ _ _ _ _ _ _ (rw opened at c.open_loop.ensures) _
           c.loop_wants-wants.ensures _ c.loop_atoms.ensures _ _ _ c.in_ok-tree.ensures.is _
-          c.in-Some-loop_depth.ensures _ c.first_at.ensures _ _ c.bind.ensures.0;
+          (rw judged at c.loop_depth.ensures) _ c.first_at.ensures _ _ c.bind.ensures.0;
       long = c.bind.ensures.1;
       deep = c.bind.ensures.2;
     }
@@ -148,15 +159,15 @@ fit_tree-returns-then-levels-eq0 t c =
     let a = c.args in
     record {
       is = no_levels a.kinds.now a.operands.now a.starts.now _ _ _ _ _ c.if-levels-eq0.true;
-      long = c.requires.0.long;
-      deep = c.requires.0.deep;
+      long = omega arith;
+      deep = omega arith;
     }
 
 pub fit_tree-loop-init : goal.fit_tree-loop-init
 fit_tree-loop-init t c =
     let a = c.args in
     going_starts a.kinds.now a.operands.now a.starts.now a.levels a.wants a.scope a.bound.now a.depths.now a.at
-    c.if-levels-eq0.false c.requires.1 c.requires.0.long c.requires.0.deep
+    c.if-levels-eq0.false (omega arith) (omega arith) (omega arith)
 
 pub fit_tree-returns-then-kinds-p : goal.fit_tree-returns-then-kinds-p
 fit_tree-returns-then-kinds-p t c =

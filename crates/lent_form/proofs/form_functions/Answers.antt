@@ -9,7 +9,7 @@ use Rattle.lent_form.proofs.Forming.{function_found, function_faulty}
 use Rattle.lent_form.proofs.form_functions.Goals as goal
 
 pub loop-f-init : goal.loop-f-init
-loop-f-init c = forming_starts _ _ _ _ c.requires.1
+loop-f-init c = forming_starts _ _ _ _ (omega arith)
 
 pub returns-in_err-p : goal.returns-in_err-p
 returns-in_err-p c =
@@ -23,7 +23,7 @@ pub returns-then-not-over : goal.returns-then-not-over
 returns-then-not-over c =
     let a = c.args in
     let found = function_found a.kinds.now a.operands.now a.over _ _ c.in_ok-p.ensures in
-    let long = paired_length a.kinds.now a.operands.now c.requires.0.lined.even in
+    let long = paired_length a.kinds.now a.operands.now c.requires.lined.even in
     let no_more : (ltb c.in_ok-p.p (length (paired a.kinds.now a.operands.now)) || a.over) ≡ false =
     grind (arith, nat_tests) in
     ends_here _ _ _ _ _ _ c.loop-f.invariant (omega arith) found.0 _ found.1 no_more
@@ -32,7 +32,7 @@ pub loop-f-preserved : goal.loop-f-preserved
 loop-f-preserved c =
     let a = c.args in
     let found = function_found a.kinds.now a.operands.now a.over _ _ c.in_ok-p.ensures in
-    let long = paired_length a.kinds.now a.operands.now c.requires.0.lined.even in
+    let long = paired_length a.kinds.now a.operands.now c.requires.lined.even in
     let more : (ltb c.in_ok-p.p (length (paired a.kinds.now a.operands.now)) || a.over) ≡ true =
     grind (arith, nat_tests) in
     forms_more _ _ _ _ _ _ c.loop-f.invariant (omega arith) found.0 _ found.1 more

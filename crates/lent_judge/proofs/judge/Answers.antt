@@ -12,7 +12,7 @@ returns-in_err-lines c =
 pub fit-requires : goal.fit-requires
 fit-requires c =
     let formed = c.in_ok-lines.ensures in
-    (cut_so _ _ formed, omega arith, omega (arith, few_so _ _ formed), c.requires)
+    (cut_so _ _ formed, omega (arith, few_so _ _ formed), c.requires)
 
 pub returns-in_err-fit : goal.returns-in_err-fit
 returns-in_err-fit c =

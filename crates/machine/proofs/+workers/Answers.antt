@@ -1,11 +1,11 @@
 -- The workers meet their contracts: one law for each way out of the code.
-use Rattle.prelude.specs.Kit.{ℕ, ◌+◌, arith, ◌≡◌, refl, ◌∙◌, sym, ap, subst, inl, inr, pos, length, get_or, map, rules}
+use Rattle.prelude.specs.Kit.{ℕ, ◌+◌, arith, refl, ◌∙◌, sym, ap, subst, inl, inr, pos, get_or, map, rules}
 use Rattle.prelude.specs.Kit.{to_z-of_z, to_z, w64, SFits}
 use Rattle.std.specs.Prelude.{Ok, Err}
 use Rattle.std.proofs.lemmas.Result.{err_from_is_err_and}
 use Rattle.semantics.specs.Store.{cell_of}
 use Rattle.semantics.specs.Words.{store_of}
-use Rattle.machine_frames.specs.Frames.{frame_words, place, word_of, element_depth}
+use Rattle.machine_frames.specs.Frames.{place, word_of, element_depth}
 use Rattle.machine_frames.specs.Work.{memory, shown}
 use Rattle.machine_frames.proofs.Results.{cause_real}
 use Rattle.machine_lines.specs.Lines.{kind_of, first_name, second_name, atoms_of}
@@ -30,7 +30,7 @@ pub work_tree-line_at-l-requires : goal.work_tree-line_at-l-requires
 work_tree-line_at-l-requires t c = (
   rows_there c.args.kinds.now.now c.args.operands.now.now c.loop-left.p
       (sym c.two_rows.ensures ∙ c.if-not-two_rows.false),
-  c.requires.2,
+  c.requires.1,
 )
 
 pub work_tree-overflow_add-p : goal.work_tree-overflow_add-p
@@ -55,7 +55,7 @@ work_tree-work_line-requires t c =
     let there = rows_there c.args.kinds.now.now c.args.operands.now.now c.loop-left.p
     (sym c.two_rows.ensures ∙ c.if-not-two_rows.false) in (
       omega (arith, c.decreases, inv.fewer, inv.under, c.loop-left-test.true),
-      (omega (arith, there), c.requires.0, inv.sized.env_long ∙ c.requires.1, c.requires.2),
+      (omega (arith, there), c.requires.0, c.requires.1),
     )
 
 pub work_tree-returns-in_err-given : goal.work_tree-returns-in_err-given
@@ -75,13 +75,12 @@ work_tree-loop-left-preserved t c =
     let inv = c.loop-left.invariant in
     let worked = c.work_line in
     let line = c.line_at-l in
-    let long : length worked.new.env ≡ frame_words = search rules in
     tree_goes inv line.result c.loop-left-test.true (sym c.two_rows.ensures ∙ c.if-not-two_rows.false) line.ensures
     (not_end line.result (search rules)) (shown (Ok c.in_ok-given.given)) worked.new.slots worked.new.heads
     worked.new.env c.in_ok-given.ensures refl (record {
       slots_long = worked.auto.slots;
       heads_long = worked.auto.heads;
-      env_long = long ∙ sym (inv.sized.env_long ∙ c.requires.1);
+      env_long = omega arith;
     })
 
 pub work_tree-returns : goal.work_tree-returns
@@ -309,7 +308,6 @@ work_pass-loop-i-preserved t c =
     let ended = c.end_pass-carried in
     let given = c.in_ok-given.given in
     let u = c.in-Some.u in
-    let long : length tree.new.env ≡ frame_words = search rules in
     let fit : SFits w64 given.value = search rules in
     let fits : SFits w64 u = search rules in
     let w = get_or tree.new.env (place a.calls a.l.first) (pos 0) in
@@ -325,7 +323,7 @@ work_pass-loop-i-preserved t c =
           (record {
             slots_long = ended.auto.slots ∙ tree.auto.slots;
             heads_long = ended.auto.heads ∙ tree.auto.heads;
-            env_long = long ∙ sym (inv.passing.sized.env_long ∙ c.requires.1);
+            env_long = omega arith;
           });
       stays = stays_on a.l.way a.l.carried v given.value u inv.stays says.1;
     })

@@ -71,9 +71,6 @@ returns-in-Release c =
     (shown c.go_on-in-Release.result) c.go_on-in-Release.ensures c.in-Release.is freed.result freed.ensures
     c.raise_level.new.env c.raise_level.ensures
 
-pub raise_level-requires : goal.raise_level-requires
-raise_level-requires c = (c.release-freed.ensures.few, search rules)
-
 pub returns-in_default : goal.returns-in_default
 returns-in_default c =
     let a = c.args in

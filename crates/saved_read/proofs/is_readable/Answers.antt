@@ -1,6 +1,6 @@
 -- `saved_read::is_readable` meets its contract, by `Laws`.
-use Rattle.prelude.specs.Kit.{arith, ◌∙◌, sym}
-use Rattle.saved_read.proofs.Laws.{short, other_depth, many, other_length, ended, refused}
+use Rattle.prelude.specs.Kit.{arith, ◌∙◌}
+use Rattle.saved_read.proofs.Laws.{short, other_depth, many, other_length}
 use Rattle.saved_read.proofs.is_readable.Goals as goal
 use Rattle.saved_read.proofs.is_readable.Goals.{then-saved-lt3-via-then-saved-lt3}
 use Rattle.saved_read.proofs.is_readable.Goals.{then-saved-lt3-via-else-saved-lt3+then-from-depth}
@@ -21,13 +21,3 @@ returns-then-k-gt-MOST_ENTRIES c =
       | then-k-gt-MOST_ENTRIES-via-then-k-gt-MOST_ENTRIES w ↦ many _ _ (omega (arith, stated))
       | then-k-gt-MOST_ENTRIES-via-else-k-gt-MOST_ENTRIES+then-saved-k w ↦ other_length _ _ _ stated w.if-saved-k.true
     ]
-
-pub returns-in-Some : goal.returns-in-Some
-returns-in-Some c =
-    ended _ _ _ c.short_at-k.ensures.0 c.if-saved-lt3.false (sym c.from.ensures ∙ c.if-from-depth.false)
-    c.if-k-gt-MOST_ENTRIES.false c.if-saved-k.false _ c.in-Some.ensures
-
-pub returns-in-None : goal.returns-in-None
-returns-in-None c =
-    refused _ _ _ c.short_at-k.ensures.0 c.if-saved-lt3.false (sym c.from.ensures ∙ c.if-from-depth.false)
-    c.if-k-gt-MOST_ENTRIES.false c.if-saved-k.false c.in-None.ensures

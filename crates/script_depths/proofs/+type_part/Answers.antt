@@ -16,50 +16,60 @@ use Rattle.script_depths.proofs.+type_part.Goals.{type_plain-in-Some, type_plain
 pub type_part-returns-then-levels-eq0 : goal.type_part-returns-then-levels-eq0
 type_part-returns-then-levels-eq0 t c = (rw c.mismatch.ensures (no_levels _ _ _ _ _ _ c.if-levels-eq0.true), refl)
 
-pub type_part-returns-in_default : goal.type_part-returns-in_default
-type_part-returns-in_default t c =
-    (rw c.mismatch-in_default.ensures (no_node _ _ _ _ _ _ _ c.in_default.ensures), refl)
+pub type_part-returns-in_err-node : goal.type_part-returns-in_err-node
+type_part-returns-in_err-node t c =
+    let fault = c.in_err-node.ensures in
+    let e = passed_on _ _ c.from_residual.ensures.1 in
+    (rw fault.0 at e ∙ no_node _ _ _ _ _ _ _ fault.1.1, refl)
 
 pub type_part-overflow_add-result : goal.type_part-overflow_add-result
-type_part-overflow_add-result t c = omega (arith, fitting_inside _ _ at_part _ _ c.in-Ok.ensures)
+type_part-overflow_add-result t c = omega (arith, fitting_inside _ _ at_part _ _ c.in_ok-node.ensures)
 
-pub type_part-overflow_add-result-in-Some : goal.type_part-overflow_add-result-in-Some
-type_part-overflow_add-result-in-Some t c = omega (arith, fitting_inside _ _ at_part _ _ c.in-Ok.ensures)
+pub type_part-overflow_add-result-in-3 : goal.type_part-overflow_add-result-in-3
+type_part-overflow_add-result-in-3 t c = omega (arith, fitting_inside _ _ at_part _ _ c.in_ok-node.ensures)
 
 pub type_part-overflow_add-at : goal.type_part-overflow_add-at
-type_part-overflow_add-at t c = omega (arith, fitting_inside _ _ at_part _ _ c.in-Ok.ensures)
+type_part-overflow_add-at t c = omega (arith, fitting_inside _ _ at_part _ _ c.in_ok-node.ensures)
 
 pub type_part-type_loop-requires : goal.type_part-type_loop-requires
 type_part-type_loop-requires t c =
-    (omega arith, fitting_inside _ _ at_part _ _ c.in-Ok.ensures)
+    (omega arith, fitting_inside _ _ at_part _ _ c.in_ok-node.ensures)
 
 pub type_part-type_plain-requires : goal.type_part-type_plain-requires
 type_part-type_plain-requires t c =
-    let n = fitting _ _ at_part _ _ c.in-Ok.ensures in
-    (omega arith, (fitting_inside _ _ at_part _ _ c.in-Ok.ensures, n.lowest, n.highest))
+    let n = fitting _ _ at_part _ _ c.in_ok-node.ensures in
+    (omega arith, (fitting_inside _ _ at_part _ _ c.in_ok-node.ensures, n.lowest, n.highest))
 
 pub type_part-returns-in-2 : goal.type_part-returns-in-2
 type_part-returns-in-2 t c =
-    (a_number (fitting _ _ at_part _ _ c.in-Ok.ensures) _ _ _ c.if-levels-eq0.false c.in-2.is, refl)
+    (a_number (fitting _ _ at_part _ _ c.in_ok-node.ensures) _ _ _ c.if-levels-eq0.false c.in-2.is, refl)
 
-pub type_part-returns-in-Some : goal.type_part-returns-in-Some
-type_part-returns-in-Some t c =
-    (a_name (fitting _ _ at_part _ _ c.in-Ok.ensures) _ _ _ c.if-levels-eq0.false c.in-3.is _ c.in-Some.ensures, refl)
+pub type_part-returns-in_err-depth-in-3 : goal.type_part-returns-in_err-depth-in-3
+type_part-returns-in_err-depth-in-3 t c =
+    let node = fitting _ _ at_part _ _ c.in_ok-node.ensures in
+    let e = c.in_err-depth-in-3.ensures in
+    let same : c.in_err-depth-in-3.field-0.0 ≡ mismatch_at c.args.at =
+    let z = rw (e.ok_part, c.mismatch-in-3.ensures) at e.value in cc in (
+      passed_on _ _ c.from_residual-in_err-depth-in-3.ensures.1
+          ∙ rw same (unknown_name node _ _ _ c.if-levels-eq0.false c.in-3.is (sym e.ok_part ∙ c.known.ensures)),
+      refl,
+    )
 
-pub type_part-returns-in-None : goal.type_part-returns-in-None
-type_part-returns-in-None t c =
-    let node = fitting _ _ at_part _ _ c.in-Ok.ensures in
-    (rw c.mismatch-in-None.ensures (unknown_name node _ _ _ c.if-levels-eq0.false c.in-3.is c.in-None.ensures), refl)
+pub type_part-returns-in_ok-depth-in-3 : goal.type_part-returns-in_ok-depth-in-3
+type_part-returns-in_ok-depth-in-3 t c =
+    let node = fitting _ _ at_part _ _ c.in_ok-node.ensures in
+    let is = sym c.in_ok-depth-in-3.ensures.ok_part ∙ c.known.ensures in
+    (a_name node _ _ _ c.if-levels-eq0.false c.in-3.is _ is, refl)
 
 pub type_part-returns-in-7 : goal.type_part-returns-in-7
 type_part-returns-in-7 t c =
     let e = c.type_let.ensures in
-    (a_let (fitting _ _ at_part _ _ c.in-Ok.ensures) _ _ _ c.if-levels-eq0.false c.in-7.is _ e.0, e.1)
+    (a_let (fitting _ _ at_part _ _ c.in_ok-node.ensures) _ _ _ c.if-levels-eq0.false c.in-7.is _ e.0, e.1)
 
-pub type_part-returns-in_default-kind : goal.type_part-returns-in_default-kind
-type_part-returns-in_default-kind t c =
+pub type_part-returns-in_default : goal.type_part-returns-in_default
+type_part-returns-in_default t c =
     let e = c.type_loop.ensures in (
-      a_loop (fitting _ _ at_part _ _ c.in-Ok.ensures) _ _ _ c.if-levels-eq0.false (search rules)
+      a_loop (fitting _ _ at_part _ _ c.in_ok-node.ensures) _ _ _ c.if-levels-eq0.false (search rules)
           (sym c.if-is_loop.ensures) _ e.0,
       e.1,
     )
@@ -67,7 +77,7 @@ type_part-returns-in_default-kind t c =
 pub type_part-returns-in_default-2 : goal.type_part-returns-in_default-2
 type_part-returns-in_default-2 t c =
     let e = c.type_plain.ensures in (
-      any_other (fitting _ _ at_part _ _ c.in-Ok.ensures) _ _ _ c.if-levels-eq0.false (search rules)
+      any_other (fitting _ _ at_part _ _ c.in_ok-node.ensures) _ _ _ c.if-levels-eq0.false (search rules)
           (sym c.if-is_loop.ensures) _ e.0,
       e.1,
     )

@@ -1,5 +1,5 @@
 -- The rows of the parameters, and before them the function's own.
-use Rattle.prelude.specs.Kit.{arith}
+use Rattle.prelude.specs.Kit.{◌≡◌, ◌+◌, ◌*◌, arith}
 use Rattle.flatten_functions.proofs.Parameters.{count_most}
 use Rattle.translate_script.proofs.Parameters.{head_wrote}
 use Rattle.translate_script.proofs.put_head.Goals as goal
@@ -15,5 +15,6 @@ returns c =
     let a = c.args in
     let count = c.low_at-count in
     let depth = c.high_at-result in
+    let n : c.from_le_bytes-n.result ≡ count.result + 256 * depth.result = omega arith in
     head_wrote a.kinds.now a.operands.now a.at count.result depth.result count.ensures depth.ensures
-    c.put_parameters-v.ensures (rw (c.from.ensures, c.from-2.ensures) at c.put_row.ensures)
+    c.put_parameters-v.ensures (rw n at c.put_row.ensures)

@@ -1,5 +1,5 @@
 -- Answers for `annotate::leaf::walk_leaf`.
-use Rattle.prelude.specs.Kit.{⊎_elim}
+use Rattle.prelude.specs.Kit.{◌≡◌, ◌+◌, ◌*◌, arith, ⊎_elim}
 use Rattle.semantics.specs.Borrow.{borrows}
 use Rattle.plain_rows.specs.Plain.{plain}
 use Rattle.plain_rows.specs.Parts.{depth_in}
@@ -36,5 +36,7 @@ pub returns-in-Literal : goal.returns-in-Literal
 returns-in-Literal c =
     let a = c.args in
     let code = plain a.operands.now a.rows.now a.notes.now in
-    rw c.in-Literal.is (literal_done code (borrows a.table.now) (depth_in a.depths.now) a.p _ _ _
-    c.put_handing.ensures c.take_handed-in-Literal.ensures)
+    let l = c.in-Literal in
+    let n : c.from_le_bytes-n.result ≡ l.name + 256 * l.count + 65536 * l.depth = omega arith in
+    rw l.is (literal_done code (borrows a.table.now) (depth_in a.depths.now) a.p _ _ _
+    (rw n at c.put_handing.ensures) c.take_handed-in-Literal.ensures)

@@ -7,8 +7,7 @@ use Rattle.borrow_table.proofs.rounds.rework.Goals.{then-follow, else-follow}
 
 pub loop-k-init : goal.loop-k-init
 loop-k-init c =
-    let bound = c.requires.n_bound in
-    (sweep_begins bound.1.0 bound.0 c.requires.shaped, bound.1.1)
+    (sweep_begins (omega arith) c.requires.n_bound c.requires.shaped, omega arith)
 
 pub loop-k-preserved : goal.loop-k-preserved
 loop-k-preserved c =

@@ -1,11 +1,10 @@
 -- `work_literal` meets its contract.
-use Rattle.prelude.specs.Kit.{ℕ, ◌+◌, arith, refl, ◌∙◌, sym, ap, length, to_z-of_z}
+use Rattle.prelude.specs.Kit.{ℕ, ◌+◌, arith, refl, ◌∙◌, sym, ap, to_z-of_z}
 use Rattle.semantics.specs.Words.{store_of}
 use Rattle.store.specs.Acquiring.{acquired_outcome, next_cell, appended_all}
 use Rattle.store.proofs.Filling.{filled_by_appending, none_given}
 use Rattle.machine_frames.specs.Frames.{words_at}
 use Rattle.machine_frames.specs.Work.{memory, shown}
-use Rattle.machine_frames.proofs.Levels.{noted_long}
 use Rattle.machine_lines.proofs.Lines.{literal_spent, literal_cell, literal_none, next_small}
 use Rattle.machine_lines.proofs.arrays.work_literal.Goals as goal
 
@@ -24,10 +23,6 @@ word_from-w-requires c =
       next_small c.level.result a.slots.now a.heads.now taken.result c.in-Some.gained
           taken.ensures.0 c.in-Some.is,
     )
-
-pub bind-requires : goal.bind-requires
-bind-requires c =
-    (c.requires.1, ap length c.note_level.ensures ∙ noted_long _ _ ∙ c.requires.2)
 
 pub returns : goal.returns
 returns c =

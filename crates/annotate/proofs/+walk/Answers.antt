@@ -9,8 +9,8 @@ use Rattle.annotate.specs.Walks.{Walks, is_loop}
 use Rattle.annotate.proofs.Branches.{if_done, loop_done}
 use Rattle.annotate.proofs.Lines.{leaf_line, if_line, loop_line, leaf_is, loop_is, not_loop, written_loop}
 use Rattle.annotate.proofs.Trees.{end_done, none_done, going_none, going_more, going_stops, going_ends, tree_done}
-use Rattle.annotate.proofs.+walk_if_walk_loop_walk_tree.Goals as goal
-use Rattle.annotate.proofs.+walk_if_walk_loop_walk_tree.Goals.{walk_tree-in-If, walk_tree-in-Loop, walk_tree-in_default}
+use Rattle.annotate.proofs.+walk.Goals as goal
+use Rattle.annotate.proofs.+walk.Goals.{walk_tree-in-If, walk_tree-in-Loop, walk_tree-in_default}
 
 pub walk_if-returns : goal.walk_if-returns
 walk_if-returns t c =
@@ -59,7 +59,7 @@ walk_tree-lines-init t c =
     let borrowing = borrows a.table.now in
     let depths = depth_in a.depths.now in
     going_none code borrowing depths (tree_walk code borrowing depths (a.levels - 1)) c.take_use.ensures.long
-    (lower c.put_end.ensures c.requires.2) (omega arith) (omega arith)
+    (lower c.put_end.ensures c.requires.1) (omega arith) (omega arith)
 
 pub walk_tree-walk_loop-requires : goal.walk_tree-walk_loop-requires
 walk_tree-walk_loop-requires t c = (

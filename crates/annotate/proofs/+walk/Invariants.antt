@@ -5,7 +5,7 @@ use Rattle.plain_rows.specs.Plain.{plain}
 use Rattle.plain_rows.specs.Parts.{depth_in}
 use Rattle.plain_rows.specs.Walk.{tree_walk}
 use Rattle.annotate.proofs.Trees.{Going}
-use Rattle.annotate.proofs.+walk_if_walk_loop_walk_tree.Given as goal
+use Rattle.annotate.proofs.+walk.Given as goal
 
 abbrev pub decreases-walk_if : goal.decreases-walk_if
 decreases-walk_if l = 2 * l.here.levels + 1
