@@ -92,7 +92,7 @@ abbrev exactly : Ended → ℕ
 exactly (Ok a) = packed a.number a.lowest a.steps a.cells
 exactly (Err refusal) = packed (number_of refusal) 0 0 0
 
-exact : (r : Ended) → SmallAnswer r → answer_to r ≡ exactly r
+exact : (r : Ended) → SmallAnswer r → answer_to number_of r ≡ exactly r
 exact (Ok a) few = packed_counts a.number a.lowest a.steps a.cells few.0 few.1 few.2
 exact (Err refusal) few = refl
 
@@ -125,7 +125,7 @@ module _ (kinds : List ℕ) (operands : List ℤ) (slots : List ℤ) (heads : Li
   pub delivers_code : {d lines a : ℕ} {r : Ended} {slots' : List ℤ} {heads' : List ℕ} →
       (p : PassedAs kinds operands d lines) →
       (left r slots' heads' ≡ delivered_left p.program readings budget slots heads) × SmallAnswer r →
-      a ≡ answer_to r →
+      a ≡ answer_to number_of r →
       Delivers (engine_deliver_code kinds operands d slots heads readings budget) a kinds operands slots' heads'
   unfolding engine_deliver_code
   delivers_code {d} {lines} {a} {r} {slots'} {heads'} p ended e =

@@ -1,5 +1,5 @@
 -- One law for each way out of the store's part of a call.
-use Rattle.prelude.specs.Kit.{ℕ, ◌≤◌, ◌<◌, ◌%◌, ◌^◌, arith, true, false, ◌≡◌, refl, List, ℤ}
+use Rattle.prelude.specs.Kit.{ℕ, ◌≤◌, ◌%◌, ◌^◌, arith, true, false, ◌≡◌, refl, List, ℤ}
 use Rattle.semantics.specs.Store.{Store, opened, cells_taken}
 use Rattle.semantics.specs.Words.{cells_in, store_of, shaped}
 use Rattle.semantics.specs.Sound.{sound, sound_words}

@@ -2,7 +2,8 @@
 // part is told.
 #![tactic(auto)]
 
-ghost use Rattle.std.specs.Prelude.{◌≡◌, Ok};
+ghost use Rattle.std.specs.Prelude.{◌≡◌, ℕ, Ok};
+ghost use Rattle.answers.specs.Numbers.{number_of};
 ghost use Rattle.call_store.specs.Left.{answered, left, opened_left, checked_left, SmallAnswer};
 ghost use Rattle.call_store.specs.Told.{answer_to, Tells};
 
@@ -55,10 +56,35 @@ pub fn check_words(slots: &[i64], heads: &[u32], depth: u32) -> Result<Answered,
     Ok(done(store_words::cells_taken(slots, heads)))
 }
 
+// Why a part of a call is refused, as far as its answer tells: by a number.
+pub trait Told {
+    ghost told: { Self → ℕ };
+
+    // The number.
+    fn told_number(self) -> u8
+        ensures { result ≡ told self };
+}
+
+impl Told for Refusal {
+    ghost told = { number_of };
+
+    fn told_number(self) -> u8 {
+        self.number()
+    }
+}
+
+impl Told for u8 {
+    ghost told = { λ number. number };
+
+    fn told_number(self) -> u8 {
+        self
+    }
+}
+
 // The packed answer to how the store's part of a call ended.
 #[tactic(auto, unfolding(semantics::specs::Calls::packed))]
-pub fn answer(ended: Result<Answered, Refusal>) -> u64
-    ensures { result ≡ answer_to ended }
+pub fn answer<R: Told>(ended: Result<Answered, R>) -> u64
+    ensures { result ≡ answer_to R.told ended }
 {
     match ended {
         Ok(a) => words::pack(
@@ -67,13 +93,13 @@ pub fn answer(ended: Result<Answered, Refusal>) -> u64
             a.steps,
             a.cells as u64,
         ),
-        Err(refusal) => u64::from(refusal.number()),
+        Err(refusal) => u64::from(refusal.told_number()),
     }
 }
 
 // The same for a call that leaves a script's code: a refusal zeroes both code arrays.
-pub fn tell(ended: Result<Answered, Refusal>, kinds: &mut [u8], operands: &mut [i64]) -> u64
-    ensures { Tells ended kinds.old operands.old result
+pub fn tell<R: Told>(ended: Result<Answered, R>, kinds: &mut [u8], operands: &mut [i64]) -> u64
+    ensures { Tells R.told ended kinds.old operands.old result
         kinds.new operands.new }
 {
     if ended.is_err() {

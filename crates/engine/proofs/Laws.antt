@@ -223,7 +223,7 @@ module _ {file kinds : List ℕ} {operands slots : List ℤ} {heads : List ℕ} 
       (kinds_long : length kinds' ≡ length kinds) (operands_long : length operands' ≡ length operands)
       {a : ℕ} {kinds'' : List ℕ} {operands'' : List ℤ} {slots' : List ℤ} {heads' : List ℕ} where
     told : (fs : Script) → admitted file (room kinds operands) ≡ accepted fs → (r : Ended) → SmallAnswer r →
-        Tells r kinds' operands' a kinds'' operands'' →
+        Tells number_of r kinds' operands' a kinds'' operands'' →
         ◌≡◌ {A = StoreReply} (record
         { answer = a; kinds = kinds''; operands = operands''; slots = slots'; heads = heads' })
         (reply_for kinds operands fs (left r slots' heads') r)
@@ -237,7 +237,7 @@ module _ {file kinds : List ℕ} {operands slots : List ℤ} {heads : List ℕ} 
 
     pub replies_told : (r : Ended) → ((fs : Script) → admitted file (room kinds operands) ≡ accepted fs →
         d ≡ main_depth fs → (left r slots' heads' ≡ part fs) × SmallAnswer r) →
-        Tells r kinds' operands' a kinds'' operands'' →
+        Tells number_of r kinds' operands' a kinds'' operands'' →
         Replies (call (admitted file (room kinds operands))) a kinds'' operands'' slots' heads'
     replies_told r e t = by (admitted file (room kinds operands)) refl h.is
       where

@@ -121,7 +121,7 @@ module _ (kinds : List ℕ) (operands : List ℤ) (slots : List ℤ) (heads buff
       (kinds_long : length kinds' ≡ length kinds) (operands_long : length operands' ≡ length operands)
       {a : ℕ} {kinds'' : List ℕ} {operands'' : List ℤ} (bytes : List ℕ) where
     told : (fs : Script) → admitted file (room kinds operands) ≡ accepted fs → (r : Ended) → SmallAnswer r →
-        Tells r kinds' operands' a kinds'' operands'' →
+        Tells number_of r kinds' operands' a kinds'' operands'' →
         reply a kinds'' operands'' bytes ≡ save_reply fs bytes r
     told fs q (Ok n) few t =
         rw (
@@ -132,7 +132,7 @@ module _ (kinds : List ℕ) (operands : List ℤ) (slots : List ℤ) (heads buff
     told fs q (Err refusal) few t = rw (t.0, t.1.0, t.1.1, kinds_long, operands_long) refl
 
     pub saves_told : (r : Ended) → save_left r bytes ≡ saved_left d slots heads buffer → SmallAnswer r →
-        Tells r kinds' operands' a kinds'' operands'' →
+        Tells number_of r kinds' operands' a kinds'' operands'' →
         Saves (call (admitted file (room kinds operands))) a kinds'' operands'' slots heads bytes
     saves_told r e few t = by (admitted file (room kinds operands)) refl h.is
       where

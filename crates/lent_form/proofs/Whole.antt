@@ -4,7 +4,8 @@ use Rattle.prelude.specs.Kit.{◌≡◌, refl, ◌∙◌, sym, ap, none, Option,
 use Rattle.prelude.specs.Kit.{ltb, ℤ, pos, length, get_or, set, length-set, replicate, get_or-replicate, take, drop}
 use Rattle.prelude.specs.Kit.{length-append, length-take, length-drop, get_or-append, get_or-set_other, get_or-set_same}
 use Rattle.prelude.specs.Kit.{drop-cons, get_or-append-add, take-suc, take-length, ne_eqb, lt-ltb, eq-eqb, le-ltb}
-use Rattle.prelude.specs.Kit.{eqb-true, ltb-true, ltb-false, eqb-false}
+use Rattle.prelude.specs.Kit.{eqb-true, ltb-true, ltb-false, eqb-false, and-true, and-false, ◌&&◌, zero}
+use Rattle.std.proofs.lemmas.List.{take-append-drop, drop-take}
 use Rattle.semantics.specs.Basics.{with_if}
 use Rattle.semantics.specs.Code.{Row, row}
 use Rattle.semantics_lent.specs.Form.{used, and_before, paired, parts_of, arity_of, arities_of}
@@ -31,8 +32,57 @@ module _ {A : Type 0} (zeroed : A → Bool) where
       go true = refl
       go false = refl
 
+  pub zeros_none : true ≡ eqb (used zeroed []) 0
+  unfolding used
+  zeros_none = refl
+
+  -- one word more
+  pub zeros_more : (l : List A) (i : ℕ) → i < length l → (a : A) → a ≡ get_or l i a → {none zero : Bool} →
+      none ≡ eqb (used zeroed (take i l)) 0 → zero ≡ zeroed a →
+      (none && zero) ≡ eqb (used zeroed (take (i + 1) l)) 0
+  zeros_more l i h a is p q = rw (p, q, longer, used_last (take i l) a) (go (zeroed a))
+    where
+      longer : take (i + 1) l ≡ take i l ++ (a ∷ [])
+      longer = let e : i + 1 ≡ suc i = omega arith in
+          ap (λ (k : ℕ). take k l) e ∙ take-suc l i a h ∙ ap (λ (b : A). take i l ++ (b ∷ [])) (sym is)
+
+      go : (b : Bool) →
+          (eqb (used zeroed (take i l)) 0 && b) ≡ eqb (cond b (used zeroed (take i l)) (suc (length (take i l)))) 0
+      go true = and-true (eqb (used zeroed (take i l)) 0)
+      go false = and-false (eqb (used zeroed (take i l)) 0)
+          ∙ sym (ne_eqb (suc (length (take i l))) 0 (λ e. omega arith))
+
+  -- closing zeros are passed over
+  zeros_behind : (l r : List A) → used zeroed r ≡ 0 → used zeroed (l ++ r) ≡ used zeroed l
+  unfolding used
+  zeros_behind [] r e = e
+  zeros_behind (b ∷ l) r e = ap (and_before (zeroed b)) (zeros_behind l r e)
+
   pub used_all : (l : List A) → used zeroed l ≡ used zeroed (take (length l) l)
   used_all l = ap (used zeroed) (sym (take-length l))
+
+  -- a block of m words behind n others, all of which were found to be zero
+  module _ (l : List A) (n m i : ℕ) (whole : i ≡ length (take m (drop n l))) {none : Bool}
+      (is : none ≡ eqb (used zeroed (take i (take m (drop n l)))) 0) (so : none ≡ true) where
+    none_there : used zeroed (take m (drop n l)) ≡ 0
+    none_there =
+        let all : eqb (used zeroed (take i (take m (drop n l)))) 0 ≡ true = sym is ∙ so in
+        used_all (take m (drop n l)) ∙ ap (λ (k : ℕ). used zeroed (take k (take m (drop n l)))) (sym whole)
+        ∙ eqb-true _ 0 all
+
+    pub block_passed : used zeroed (take (n + m) l) ≡ used zeroed (take n l)
+    block_passed = ap (used zeroed) (sym (take-append-drop n (take (n + m) l)) ∙ halves)
+        ∙ zeros_behind (take n l) (take m (drop n l)) none_there
+      where
+        front : (l : List A) (i k : ℕ) → i ≤ k → take i (take k l) ≡ take i l
+        front l zero k h = refl
+        front [] (suc i) zero h = refl
+        front [] (suc i) (suc k) h = refl
+        front (a ∷ l) (suc i) zero h = absurd (omega arith)
+        front (a ∷ l) (suc i) (suc k) h = ap (λ (r : List A). a ∷ r) (front l i k (omega arith))
+
+        halves : take n (take (n + m) l) ++ drop n (take (n + m) l) ≡ take n l ++ take m (drop n l)
+        halves = rw (front l n (n + m) (omega arith), drop-take n m l) refl
 
   pub used_none : (l : List A) (n : ℕ) → n ≡ 0 → used zeroed (take n l) ≡ 0
   unfolding used

@@ -174,11 +174,28 @@ fn arities_of(kinds: &[u8], operands: &[i64]) -> [Wants; 32]
     arities
 }
 
-// How many places an array has up to its last word that is not zero.
+// How many words are looked at in one go where closing zeros are passed over.
+const BLOCK: usize = 16;
+
+// How many places an array has up to its last word that is not zero. The first loop does not count: it goes back over
+// blocks of zeros, of which arrays with room for the longest code have many. A block is looked at to its end, and so
+// many words at a time.
 fn used<T: Copy + PartialEq>(words: &[T], zero: T) -> usize
     ensures { result ≡ used (λ w. T.eq w zero) words.now }
 {
-    for i in (0..words.len()).rev() {
+    let mut end = words.len();
+    while BLOCK <= end {
+        let block = &words[end - BLOCK..end];
+        let mut none = true;
+        for word in block {
+            none &= *word == zero;
+        }
+        if !none {
+            break;
+        }
+        end -= BLOCK;
+    }
+    for i in (0..end).rev() {
         if words[i] != zero {
             return i + 1;
         }

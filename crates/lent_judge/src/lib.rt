@@ -18,9 +18,14 @@ pub fn judge(kinds: &[u8], operands: &[i64], depth: u64, table: &mut [u8]) -> Re
     let Formed { lines, functions } = lent_form::form(kinds, operands, &mut starts)?;
     let ks = &kinds[..lines];
     let os = &operands[..lines];
-    lent_fit::fit(ks, os, &starts, functions, depth, table)?;
+    // no `?` here and below: the proof would name the arm by its call, and an edit that tells another fault add a call
+    if let Err(unfit) = lent_fit::fit(ks, os, &starts, functions, depth, table) {
+        return Err(unfit);
+    }
     let borrowed = lent_table::borrow_table(ks, os, &starts, functions);
-    lent_hold::hold(ks, os, functions as u8, table, &borrowed)?;
+    if let Err(unheld) = lent_hold::hold(ks, os, functions as u8, table, &borrowed) {
+        return Err(unheld);
+    }
     machine_table::fill(ks, functions, lines, &starts, table);
     Ok(lines)
 }

@@ -51,11 +51,16 @@ pub fn work_tree(
             let w = machine_frames::word_of(env, calls, a);
             return machine_frames::go_on(w, p + 2, s);
         }
-        let given = work_line(
+        match work_line(
             kinds, operands, table, slots, heads, env, s, left, calls, p, l,
-        )?;
-        p = given.next;
-        s = given.steps;
+        ) {
+            Ok(given) => {
+                p = given.next;
+                s = given.steps;
+            }
+            // field by field: a copy of the whole keeps the bytes between its fields too, in each frame
+            Err(Halted { cause, steps }) => return Err(Halted { cause, steps }),
+        }
     }
     machine_frames::lost(s)
 }

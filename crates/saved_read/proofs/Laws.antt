@@ -7,9 +7,7 @@ use Rattle.semantics.specs.Number.{bytes_at, signed, is_zero}
 use Rattle.semantics.specs.Value.{Value, list}
 use Rattle.semantics.specs.Saved.{value_at, all_read, stated_count, saved_length, labelled}
 use Rattle.semantics.specs.Saved.{read_saved}
-use Rattle.std.specs.Option.{option_eq}
-use Rattle.std.specs.Prelude.{Option, Some, None}
-use Rattle.saved_read.specs.Told.{read_outcome, told, is_there, readable}
+use Rattle.saved_read.specs.Told.{told, is_there, readable}
 
 -- a number is 0 where its bits are
 signed_other : (u : ℕ) → u ≢ 0 → is_zero (signed u) ≡ false
@@ -182,14 +180,9 @@ module _ (d : ℕ) (file : List ℕ) where
         broken (done v p) e = absurd (let z : ◌≡◌ {A = ℕ} 0 1 = cc in omega arith)
         broken (stop n p) e = refl
 
-        ended : (q : ℕ) → done q tt ≡ told (value_at file k d 0) → eqb q k ≡ readable d file
+        -- by the test of where the entries end
+        pub ended : (q : ℕ) → done q tt ≡ told (value_at file k d 0) → eqb q k ≡ readable d file
         ended q e = sym (read ∙ ends (value_at file k d 0) q (sym e))
 
-        refused : stop 27 tt ≡ told (value_at file k d 0) → false ≡ readable d file
+        pub refused : stop 27 tt ≡ told (value_at file k d 0) → false ≡ readable d file
         refused e = sym (read ∙ broken (value_at file k d 0) (sym e))
-
-        -- by the test of where the entries end
-        pub tested : (r : Option ℕ) (t : Bool) → t ≡ option_eq eqb r (Some k) →
-            read_outcome r ≡ told (value_at file k d 0) → t ≡ readable d file
-        tested (Some q) t f e = f ∙ ended q e
-        tested None t f e = f ∙ refused e

@@ -43,7 +43,7 @@ fn read_values(saved: &[u8], k: usize, depth: u32, count: u8, p: usize) -> Optio
 pub const MOST_ENTRIES: usize = 4096;
 
 // Whether a file holds a value of a depth.
-#[tactic(auto, using(crate::proofs::Laws::tested))]
+#[tactic(auto, using(crate::proofs::Laws::ended, crate::proofs::Laws::refused))]
 pub fn is_readable(saved: &[u8], depth: u32) -> bool
     ensures { result ≡ readable depth saved.now }
 {
@@ -54,5 +54,8 @@ pub fn is_readable(saved: &[u8], depth: u32) -> bool
     if MOST_ENTRIES < k || saved.len() != 3 + 9 * k {
         return false;
     }
-    read_value(saved, k, depth, 0) == Some(k)
+    let Some(next) = read_value(saved, k, depth, 0) else {
+        return false;
+    };
+    next == k
 }

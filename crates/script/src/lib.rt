@@ -31,7 +31,10 @@ fn check(
 {
     let count = functions as u8;
     if let Err(fault) = script_types::type_script(kinds, operands, starts, count) {
-        script_names::name_script(kinds, operands, count)?;
+        // no `?`: the proof would name its arm by the call, and an edit that tells another fault add a call
+        if let Err(unknown) = script_names::name_script(kinds, operands, count) {
+            return Err(unknown);
+        }
         return Err(fault);
     }
     if let Some(node) = script_count::count_script(kinds) {

@@ -1,5 +1,5 @@
 -- Comparing a cell with what was gathered: a law for each way out of the code.
-use Rattle.prelude.specs.Kit.{take, length, length-take-le, get_or-take, ℕ, ◌≤◌, ◌<◌, ◌-◌, suc, zero, arith, true, false, Bool, ◌&&◌, ◌≡◌}
+use Rattle.prelude.specs.Kit.{take, length, length-take-le, get_or-take, ℕ, ◌≤◌, ◌<◌, ◌-◌, suc, zero, arith, true, false, Bool, ◌&&◌, and-true, ◌≡◌}
 use Rattle.prelude.specs.Kit.{refl, ◌∙◌, sym, ap, List, eqb, leb, ℤ, pos, get_or, lt-ltb, le-ltb, eqb-true}
 use Rattle.prelude.specs.Kit.{leb-true}
 use Rattle.semantics.specs.Basics.{all}
@@ -101,6 +101,16 @@ module _ (slots : List ℤ) (heads : List ℕ) (c met holders : ℕ) (h : c < ce
   head_unfit f = sym (fits_is ∙ rw f refl)
 
   module _ (t : head_fits x.count x.size x.depth x.next met holders ≡ true) where
+    pub empty_cell : x.size ≡ 0 → {r : Bool} → r ≡ zeros_from (slots_at slots c) 0 →
+        r ≡ cell_fits (store_of slots heads) c met holders
+    unfolding all_used all
+    empty_cell e {r} z = z
+        ∙ sym (fits_is ∙ rw (t, e, no_elements x.depth) (and-true (zeros_from (slots_at slots c) 0)))
+      where
+        no_elements : (d : ℕ) → elements_used (store_of slots heads) d (slots_at slots c) 0 ≡ true
+        no_elements zero = refl
+        no_elements (suc d) = refl
+
     pub not_zero : zeros_from (slots_at slots c) x.size ≡ false →
         false ≡ cell_fits (store_of slots heads) c met holders
     not_zero f = sym (fits_is ∙ rw (t, f) refl)

@@ -162,7 +162,15 @@ fn cell_is_sound(slots: &[i64], heads: &[u32], c: usize, met: u32, holders: u32)
     ensures { result ≡ cell_fits (store_of slots.now heads.now) c met holders }
 {
     let h = head_of(slots, heads, c);
-    if !head_fits(h, met, holders) || !zero_from(slots, c, h.size) {
+    if !head_fits(h, met, holders) {
+        return false;
+    }
+    // without elements: a way out of its own, since a loop of known length is fast, and most cells of a large store are
+    // free
+    if h.size == 0 {
+        return zero_from(slots, c, 0);
+    }
+    if !zero_from(slots, c, h.size) {
         return false;
     }
     let start = 1 + 16 * c;

@@ -1,6 +1,6 @@
 -- Copying words into a list from the front.
 use Rattle.prelude.specs.Kit.{ℕ, ◌≤◌, ◌+◌, ◌<◌, arith, ℕ_discrete, ◌≡◌, ◌∙◌, sym, List, length, get_or, set}
-use Rattle.prelude.specs.Kit.{◌++◌, get_or-append, get_or-set_other, get_or-set_same, ext_get_or}
+use Rattle.prelude.specs.Kit.{get_or-set_other, get_or-set_same, ext_get_or}
 use Rattle.laws.specs.Lists.{tabulate_length}
 use Rattle.store_words.proofs.Tables.{table_at}
 use Rattle.store_reset.specs.Resetting.{words_of}
@@ -13,12 +13,6 @@ module _ {A : Type 0} (z : A) (n : ℕ) (l : List A) where
   pub word_is : (i : ℕ) → i < n → get_or (words_of z n l) i z ≡ get_or l i z
   unfolding words_of
   word_is i h = table_at n (λ i. get_or l i z) i z h
-
--- the words of a list are its front's
-pub front_words : {A : Type 0} (z : A) (l r : List A) → words_of z (length l) (l ++ r) ≡ l
-front_words z l r = ext_get_or z (words_of z (length l) (l ++ r)) l (words_length z (length l) (l ++ r))
-    (λ k b. let inside : k < length l = omega (arith, b, words_length z (length l) (l ++ r)) in
-    word_is z (length l) (l ++ r) k inside ∙ get_or-append l r z k inside)
 
 -- the first i elements of `to` are copied
 pub record Copying {A : Type 0} (z : A) (from to : List A) (i : ℕ) : Type 0 where
@@ -38,3 +32,9 @@ module _ {A : Type 0} {z : A} {from to : List A} {i : ℕ} (w : Copying z from t
   pub copying_all : (n : ℕ) → length to ≡ n → n ≤ i → to ≡ words_of z n from
   copying_all n e h = ext_get_or z to (words_of z n from) (e ∙ sym (words_length z n from))
       (λ k b. w.copied k (omega arith) ∙ sym (word_is z n from k (omega (arith, e))))
+
+  -- all words of a list that are copied to the front of another are its words there
+  pub copied_front : length from ≤ i → words_of z (length from) to ≡ from
+  copied_front h = ext_get_or z (words_of z (length from) to) from (words_length z (length from) to)
+      (λ k b. let inside : k < length from = omega (arith, b, words_length z (length from) to) in
+      word_is z (length from) to k inside ∙ w.copied k (omega arith))

@@ -81,7 +81,9 @@ pub fn save_words<T: Copy>(saved: &mut [T], words: &[T])
     requires { length words.now ≤ length saved.old }
     ensures { (none : T) → words_of none (length words.now) saved.new ≡ words.now }
 {
-    saved[..words.len()].copy_from_slice(words);
+    for i in 0..words.len() {
+        saved[i] = words[i];
+    }
 }
 
 // After a stop: the cells that were in use before it as they were, the others clear and linked upwards.

@@ -1,7 +1,7 @@
 // The calls that have a store, each named by its part of the tally. A call is lent code arrays that hold something else
 // before it, of the lengths that a line gives as its words 1 and 2. After it both are compared with the code as
 // `engine_translate` gives it.
-use test_text::{Code, Part, Saved, Store, Tally};
+use test_text::{MOST_LINES, Part, Saved, Store, Tally};
 
 // Makes the delivery of a line with these code arrays; one that gives no more than lengths has budget 0 and no
 // readings.
@@ -28,6 +28,28 @@ fn deliver(
     })
 }
 
+// Saves the totals of a store, with these code arrays. The buffer is counted where it is right.
+fn save(
+    line: &[u8],
+    file: &[u8],
+    kinds: &mut [u8],
+    operands: &mut [i64],
+    store: &Store,
+    tally: &mut Tally,
+) -> u64 {
+    let mut saved = Saved::lent(Part::Save, line);
+    let answer = engine::engine_save(
+        file,
+        kinds,
+        operands,
+        store.slots(),
+        store.heads(),
+        saved.buffer(),
+    );
+    tally.count_store(saved.is_as_said(line), saved.lent_bytes().len());
+    answer
+}
+
 // Makes a call with these code arrays. A check and a save are lent the store as `&`, so no word of it can change, and
 // nor can the bytes lent to a restore.
 fn make(
@@ -37,33 +59,33 @@ fn make(
     kinds: &mut [u8],
     operands: &mut [i64],
     store: &mut Store,
-    saved: &mut Saved,
+    tally: &mut Tally,
 ) -> u64 {
     match call {
         Part::Open => store.lend(|slots, heads| {
             engine::engine_open(file, kinds, operands, slots, heads)
         }),
         Part::Check => { engine::engine_check(file, kinds, operands, store.slots(), store.heads()) }
-        Part::Save => engine::engine_save(
-            file,
-            kinds,
-            operands,
-            store.slots(),
-            store.heads(),
-            saved.buffer(),
-        ),
-        Part::Restore => store.lend(|slots, heads| {
-            engine::engine_restore(file, kinds, operands, slots, heads, saved.lent_bytes())
-        }),
+        Part::Save => save(line, file, kinds, operands, store, tally),
+        Part::Restore => {
+            let saved = Saved::lent(Part::Restore, line);
+            store.lend(|slots, heads| {
+                engine::engine_restore(file, kinds, operands, slots, heads, saved.lent_bytes())
+            })
+        }
         _ => deliver(line, file, kinds, operands, store),
     }
 }
 
-// The code of a file as `engine_translate` gives it.
-fn code_of(file: &[u8]) -> Code {
-    let mut code = Code::longest();
-    code.lend(|kinds, operands| engine::engine_translate(file, kinds, operands));
-    code
+// Whether a call on this file with this answer leaves these code arrays: all zero after a refusal, and else the code as
+// `engine_translate` gives it. (arrays, here and below, and no `Code`: a struct of them is copied where it is made)
+fn is_left(answer: u64, file: &[u8], kinds: &[u8], operands: &[i64]) -> bool {
+    let mut wanted_kinds = [0u8; MOST_LINES];
+    let mut wanted_operands = [0i64; MOST_LINES];
+    if !test_text::is_refusal(test_text::number_of(answer)) {
+        engine::engine_translate(file, &mut wanted_kinds, &mut wanted_operands);
+    }
+    wanted_kinds.starts_with(kinds) && wanted_operands.starts_with(operands)
 }
 
 // Makes a call of which this number is wanted; its answer. The code arrays are counted where they are right, and so is
@@ -77,18 +99,22 @@ pub fn run(
     number: usize,
     tally: &mut Tally,
 ) -> u64 {
-    let ended = store.ended(call, number);
-    let mut code = Code::filled(170, -170, line);
-    let mut saved = Saved::lent(call, line);
+    let compared = number != 0 && call != Part::Check && call != Part::Save;
+    let ended = if compared {
+        Some(store.ended(call, number))
+    } else {
+        None
+    };
+    let mut kinds = [170u8; MOST_LINES];
+    let mut operands = [-170i64; MOST_LINES];
+    let lent_kinds = &mut kinds[..test_text::length_of(line, 1, MOST_LINES)];
+    let lent_operands = &mut operands[..test_text::length_of(line, 2, MOST_LINES)];
     tally.turn_to(call, number);
-    let answer = code.lend(|kinds, operands| {
-        make(call, line, file, kinds, operands, store, &mut saved)
-    });
-    tally.count_code(code.is_left(answer, &code_of(file)), code.words());
-    if call == Part::Save {
-        tally.count_store(saved.is_as_said(line), saved.lent_bytes().len());
-    } else if call != Part::Check && number != 0 {
-        tally.count_store(store.is_same(&ended), store.words());
+    let answer = make(call, line, file, lent_kinds, lent_operands, store, tally);
+    let words = lent_kinds.len() + lent_operands.len();
+    tally.count_code(is_left(answer, file, lent_kinds, lent_operands), words);
+    if let Some(ended) = &ended {
+        tally.count_store(store.is_same(ended), store.words());
     }
     answer
 }

@@ -18,7 +18,11 @@ fn deliver(line: &[u8], code: &Code, depth: u64, store: &mut Store, tally: &mut 
     let budget = test_text::natural(line, 1);
     let wanted = test_text::natural(line, 2);
     let number = test_text::number_of(wanted);
-    let ended = store.ended(Part::DeliverCode, number);
+    let ended = if number != 0 {
+        Some(store.ended(Part::DeliverCode, number))
+    } else {
+        None
+    };
     tally.turn_to(Part::DeliverCode, number);
     let answer = store.lend(|slots, heads| {
         engine::engine_deliver_code(
@@ -32,8 +36,8 @@ fn deliver(line: &[u8], code: &Code, depth: u64, store: &mut Store, tally: &mut 
         )
     });
     tally.count_call(answer == wanted);
-    if number != 0 {
-        tally.count_store(store.is_same(&ended), store.words());
+    if let Some(ended) = &ended {
+        tally.count_store(store.is_same(ended), store.words());
     }
 }
 

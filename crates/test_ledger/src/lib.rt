@@ -117,14 +117,7 @@ impl Store {
     pub fn lend<F: FnOnce(&mut [i64], &mut [u32]) -> u64>(&mut self, cells: usize, call: F) -> u64
         requires { F.IsAlwaysCallable call }
     {
-        // (copied and put back: two parts of what lies behind one reference cannot be lent at once)
-        let mut slots = self.slots;
-        let mut heads = self.heads;
-        let most = cells.min(MOST_CELLS);
-        let answer = call(&mut slots[..1 + 16 * most], &mut heads[..1 + 4 * most]);
-        self.slots = slots;
-        self.heads = heads;
-        answer
+        lend_both(&mut self.slots, &mut self.heads, cells, call)
     }
 
     // Whether a cell has this length and element depth.
@@ -161,4 +154,18 @@ impl Store {
     pub fn has_totals(&self, ledger: &Memory) -> bool {
         self.has_value(ledger, self.slots[0], ledger.totals, totals_depth(ledger))
     }
+}
+
+// Lends a call the arrays of a store of some cells. (a function of its own: two fields behind one reference can be lent
+// at once only whole, and are cut here)
+fn lend_both<F: FnOnce(&mut [i64], &mut [u32]) -> u64>(
+    slots: &mut [i64; SLOT_WORDS],
+    heads: &mut [u32; HEAD_WORDS],
+    cells: usize,
+    call: F,
+) -> u64
+    requires { F.IsAlwaysCallable call }
+{
+    let most = cells.min(MOST_CELLS);
+    call(&mut slots[..1 + 16 * most], &mut heads[..1 + 4 * most])
 }

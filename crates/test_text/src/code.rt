@@ -131,15 +131,15 @@ impl Code {
     pub fn lend<F: FnOnce(&mut [u8], &mut [i64]) -> u64>(&mut self, call: F) -> u64
         requires { F.IsAlwaysCallable call }
     {
-        // (copied and put back: two parts of what lies behind one reference cannot be lent at once)
-        let mut kinds = self.kinds;
-        let mut operands = self.operands;
-        let kind_count = self.kind_count.min(MOST_LINES);
-        let operand_count = self.operand_count.min(MOST_LINES);
-        let answer = call(&mut kinds[..kind_count], &mut operands[..operand_count]);
-        self.kinds = kinds;
-        self.operands = operands;
-        answer
+        let kind_count = self.kind_count;
+        let operand_count = self.operand_count;
+        lend_both(
+            &mut self.kinds,
+            &mut self.operands,
+            kind_count,
+            operand_count,
+            call,
+        )
     }
 
     // How many words are lent.
@@ -166,4 +166,21 @@ impl Code {
             self.is_same(code)
         }
     }
+}
+
+// Lends a call the first words of two arrays. (a function of its own: two fields behind one reference can be lent at
+// once only whole, and are cut here)
+fn lend_both<F: FnOnce(&mut [u8], &mut [i64]) -> u64>(
+    kinds: &mut [u8; MOST_LINES],
+    operands: &mut [i64; MOST_LINES],
+    kind_count: usize,
+    operand_count: usize,
+    call: F,
+) -> u64
+    requires { F.IsAlwaysCallable call }
+{
+    call(
+        &mut kinds[..kind_count.min(MOST_LINES)],
+        &mut operands[..operand_count.min(MOST_LINES)],
+    )
 }

@@ -80,15 +80,15 @@ impl Store {
     pub fn lend<F: FnOnce(&mut [i64], &mut [u32]) -> u64>(&mut self, call: F) -> u64
         requires { F.IsAlwaysCallable call }
     {
-        // (copied and put back: two parts of what lies behind one reference cannot be lent at once)
-        let mut slots = self.slots;
-        let mut heads = self.heads;
-        let slot_count = self.slot_count.min(MOST_SLOTS);
-        let head_count = self.head_count.min(MOST_HEADS);
-        let answer = call(&mut slots[..slot_count], &mut heads[..head_count]);
-        self.slots = slots;
-        self.heads = heads;
-        answer
+        let slot_count = self.slot_count;
+        let head_count = self.head_count;
+        lend_both(
+            &mut self.slots,
+            &mut self.heads,
+            slot_count,
+            head_count,
+            call,
+        )
     }
 
     // How many words it has.
@@ -176,6 +176,23 @@ impl Store {
             cells_of(wanted)
         }
     }
+}
+
+// Lends a call the first words of two arrays. (a function of its own: two fields behind one reference can be lent at
+// once only whole, and are cut here)
+fn lend_both<F: FnOnce(&mut [i64], &mut [u32]) -> u64>(
+    slots: &mut [i64; MOST_SLOTS],
+    heads: &mut [u32; MOST_HEADS],
+    slot_count: usize,
+    head_count: usize,
+    call: F,
+) -> u64
+    requires { F.IsAlwaysCallable call }
+{
+    call(
+        &mut slots[..slot_count.min(MOST_SLOTS)],
+        &mut heads[..head_count.min(MOST_HEADS)],
+    )
 }
 
 // The depth of the totals of a script file: the second byte of its first operand.

@@ -14,23 +14,20 @@ fit-requires c =
     let formed = c.in_ok-lines.ensures in
     (cut_so _ _ formed, omega (arith, few_so _ _ formed), c.requires)
 
-pub returns-in_err-fit : goal.returns-in_err-fit
-returns-in_err-fit c =
-    let p = err_from_is_err_and c.from_residual-in_err-fit.result c.from_residual-in_err-fit.ensures.1 in
-    rw (p.1, p.2) (fit_refuses _ _ c.in_ok-lines.ensures _ _ _ c.in_err-fit.ensures)
+pub returns-in-Err : goal.returns-in-Err
+returns-in-Err c = fit_refuses _ _ c.in_ok-lines.ensures _ _ _ c.in-Err.ensures
 
 pub hold-requires : goal.hold-requires
 hold-requires c =
     let formed = c.in_ok-lines.ensures in
     (cut_so _ _ formed, omega (arith, few_so _ _ formed, kinds_cut _ _ formed))
 
-pub returns-in_err-hold : goal.returns-in_err-hold
-returns-in_err-hold c =
-    let p = err_from_is_err_and c.from_residual-in_err-hold.result c.from_residual-in_err-hold.ensures.1 in
-    rw (p.1, p.2) (hold_refuses _ _ c.in_ok-lines.ensures _ _ c.in_ok-fit.ensures c.borrow_table-borrowed.ensures.0 _
-    c.in_err-hold.ensures)
+pub returns-in-Err-hold : goal.returns-in-Err-hold
+returns-in-Err-hold c =
+    hold_refuses _ _ c.in_ok-lines.ensures _ _ c.in_default.ensures c.borrow_table-borrowed.ensures.0 _
+    c.in-Err-hold.ensures
 
 pub returns : goal.returns
 returns c =
-    hold_passes _ _ c.in_ok-lines.ensures _ _ c.in_ok-fit.ensures c.borrow_table-borrowed.ensures.0 _
-    c.in_ok-hold.ensures c.fill.ensures
+    hold_passes _ _ c.in_ok-lines.ensures _ _ c.in_default.ensures c.borrow_table-borrowed.ensures.0 _
+    c.in_default-hold.ensures c.fill.ensures

@@ -58,17 +58,14 @@ work_tree-work_line-requires t c =
       (omega (arith, there), c.requires.0, c.requires.1),
     )
 
-pub work_tree-returns-in_err-given : goal.work_tree-returns-in_err-given
-work_tree-returns-in_err-given t c =
+pub work_tree-returns-in-Err : goal.work_tree-returns-in-Err
+work_tree-returns-in-Err t c =
     let worked = c.work_line in
     let line = c.line_at-l in
-    let halted = c.in_err-given.field-0.0 in
-    let exit = err_from_is_err_and c.from_residual.result c.from_residual.ensures.1 in
-    rw (exit.1, exit.2)
-    (tree_stops c.loop-left.invariant line.result c.loop-left-test.true
+    tree_stops c.loop-left.invariant line.result c.loop-left-test.true
     (sym c.two_rows.ensures ∙ c.if-not-two_rows.false) line.ensures (not_end line.result (search rules))
-    (shown (Err halted)) worked.new.slots worked.new.heads worked.new.env c.in_err-given.ensures
-    (cause_real halted.cause))
+    _ worked.new.slots worked.new.heads worked.new.env c.in-Err.ensures
+    (cause_real _)
 
 pub work_tree-loop-left-preserved : goal.work_tree-loop-left-preserved
 work_tree-loop-left-preserved t c =
@@ -76,8 +73,8 @@ work_tree-loop-left-preserved t c =
     let worked = c.work_line in
     let line = c.line_at-l in
     tree_goes inv line.result c.loop-left-test.true (sym c.two_rows.ensures ∙ c.if-not-two_rows.false) line.ensures
-    (not_end line.result (search rules)) (shown (Ok c.in_ok-given.given)) worked.new.slots worked.new.heads
-    worked.new.env c.in_ok-given.ensures refl (record {
+    (not_end line.result (search rules)) (shown (Ok c.in-Ok.given)) worked.new.slots worked.new.heads
+    worked.new.env c.in-Ok.ensures refl (record {
       slots_long = worked.auto.slots;
       heads_long = worked.auto.heads;
       env_long = omega arith;
