@@ -110,7 +110,8 @@ pub fn write_totals(slots: &[i64], heads: &[u32], saved: &mut [u8], depth: u32) 
         ≡ totals_saved depth (store_of slots.now heads.now) saved.old }
 {
     let w = words::get_or(slots, 0, 0);
-    saved.fill(0);
+    // (no `fill`: an edit that leaves bytes would change more than a number)
+    clearing::clear_from(saved, 0, 0);
     let Some(k) = count_value(slots, heads, w, depth, 0) else {
         return false;
     };

@@ -53,8 +53,9 @@ pub fn zero_words(slots: &mut [i64], heads: &mut [u32])
     ensures { store_of slots.new heads.new
         ≡ zeroed (cells_in slots.old heads.old) }
 {
-    slots.fill(0);
-    heads.fill(0);
+    // (no `fill`: an edit that leaves a word would change more than a number)
+    clearing::clear_from(slots, 0, 0);
+    clearing::clear_from(heads, 0, 0);
 }
 
 // Opens a store: all words zero, all cells free and linked upwards; for totals that are an array the first cell is

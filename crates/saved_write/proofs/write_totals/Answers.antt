@@ -1,5 +1,6 @@
 -- `saved_write::write_totals` meets its contract, by `Saving`.
-use Rattle.prelude.specs.Kit.{◌≤◌, arith, to_z-of_z}
+use Rattle.prelude.specs.Kit.{◌≤◌, arith, ◌∙◌, to_z-of_z}
+use Rattle.clearing.proofs.Clearing.{cleared_whole}
 use Rattle.saved_write.proofs.Laws.{counted_some}
 use Rattle.saved_write.proofs.Saving.{begins, narrow, saves}
 use Rattle.saved_write.proofs.write_totals.Goals as goal
@@ -22,7 +23,7 @@ pub returns-then-saved-k : goal.returns-then-saved-k
 returns-then-saved-k c =
     let w = c.get_or-w in
     narrow
-    (begins _ _ _ _ w.ensures (record { sfits = w.type_inv }) (c.fill.ensures.after (λ y e. e)) _ c.in-Some.ensures)
+    (begins _ _ _ _ w.ensures (record { sfits = w.type_inv }) (c.clear_from.ensures ∙ cleared_whole _ _) _ c.in-Some.ensures)
     c.if-saved-k.true
 
 pub returns : goal.returns
@@ -30,7 +31,7 @@ returns c =
     let w = c.get_or-w in
     let put = c.write_value in
     saves
-    (begins _ _ _ _ w.ensures (record { sfits = w.type_inv }) (c.fill.ensures.after (λ y e. e)) _ c.in-Some.ensures)
+    (begins _ _ _ _ w.ensures (record { sfits = w.type_inv }) (c.clear_from.ensures ∙ cleared_whole _ _) _ c.in-Some.ensures)
     c.if-saved-k.false c.put_byte.new.bytes c.put_bytes.new.bytes put.new.saved put.result
     c.put_byte.ensures c.put_bytes.ensures
     (rw (to_z-of_z {z = w.result} (record { sfits = w.type_inv })) at put.ensures)
